@@ -1,6 +1,7 @@
 -- The verdict: one law for each way through `judge`.
 use mathlib.Core.Path.{◌≡◌, refl, sym, ap, ◌∙◌}
-use mathlib.Core.Bool.{Bool, true, false, true≢false}
+use mathlib.Core.Bool.{Bool, true, false}
+use Rattle.std.specs.Prelude.{Result, Ok, Err}
 use mathlib.Core.List.{List, [], ◌∷◌}
 use mathlib.Core.Option.{Option, none, some}
 use Prim.Native.Nat.{ℕ, ◌+◌, ◌-◌, ◌^◌, ◌≤◌, ◌<◌, min}
@@ -9,7 +10,7 @@ use mir.Val.{Fits as Fits-in}
 use mir.Syntax.{w64}
 use lib.Dec.{ltb}
 use lib.ListN.{length}
-use borrow.Author.Tests.{lt-ltb, le-ltb, eq-eqb}
+use borrow.Author.Tests.{lt-ltb, le-ltb, eq-eqb, ltb-true, ltb-false}
 use Rattle.rules.specs.Language.{pattern, Tree, one, more, loop_nesting}
 use Rattle.rules.specs.Reader.{tree_of, stop_of}
 use Rattle.laws.proofs.Stops.{stop-inside}
@@ -20,12 +21,11 @@ use Rattle.primaries.specs.Readers.{Fits, Parsed, ParsedAs, TextSays}
 use Rattle.trees.specs.Held.{Top, At}
 use Rattle.trees.proofs.Holds.{pattern-nodes}
 use Rattle.pattern.proofs.TextLaws.{text-top}
-use Rattle.judge.specs.Judged.{text_tests, text_answer, refused_verdict, Judging}
+use Rattle.refusals.specs.declared.Refusal.{Refusal}
+use Rattle.refusals.specs.declared.Refusal.TheVariants.{TooDeep, Broken, Nested, TooMany, Unfinished}
+use Rattle.text_bytes.specs.declared.Broken.{Broken as Stop}
+use Rattle.judge.specs.Judged.{text_tests, text_answer, stopped_at, Judging}
 use Rattle.loops.specs.Loops.{Nesting}
-use Rattle.judge.specs.declared.Verdict.{Verdict}
-
-clash : {A : Type 0} → ◌≡◌ {A = ℕ} 0 1 → A
-clash e = absurd (omega arith)
 
 -- ---- the verdict
 
@@ -35,50 +35,61 @@ module _ (s m0 m1 : List ℕ) where
   unfolding text_answer text_tests
   answer_is a b c d e e1 e2 e3 e4 e5 = rw (e1, e2, e3, e4, e5) refl
 
-  pub judge_deep : (t : Bool) (r : Verdict) → t ≡ deep 0 0 s → t ≡ true → r ≡ refused_verdict 4 0 → Judging s m0 m0 r
+  pub judge_deep : (t : Bool) → t ≡ deep 0 0 s → t ≡ true → Judging s m0 m0 (Err TooDeep)
   unfolding first_of offset_at
-  judge_deep t r e o er =
-      rw er
-      (record { answer = sym (answer_is true _ _ _ _ (sym e ∙ o) refl refl refl refl); offset = refl; places = refl; factor = refl; top = λ z. clash (omega arith); kept = λ j l. refl; len = refl })
+  judge_deep t e o =
+      record { answer = sym (answer_is true _ _ _ _ (sym e ∙ o) refl refl refl refl); offset = refl; places = tt; factor = tt; top = tt; kept = λ j l. refl; len = refl }
 
-  module _ (d : Bool) (ed : d ≡ deep 0 0 s) (nd : d ≡ false) (p : Step) (h : TextSays s m0 m1 p) (e : p.ok ≡ false) where
+  module _ (d : Bool) (ed : d ≡ deep 0 0 s) (nd : d ≡ false) (p : Stop) (h : TextSays s m0 m1 (Err p)) where
     outside : no_tree (tree_of s) ≡ true
     unfolding no_tree ParsedAs
     outside = go (tree_of s) h.says
       where
-        go : (x : Option (Tree pattern)) → ParsedAs s m0 m1 p x → no_tree x ≡ true
+        go : (x : Option (Tree pattern)) → ParsedAs s m0 m1 (Err p) x → no_tree x ≡ true
         go none q = refl
-        go (some t) q = absurd (true≢false (sym q.ok ∙ e))
+        go (some t) q = absurd q
 
-    pub judge_wrong : (r : Verdict) → p.at < length s → r ≡ refused_verdict 5 p.at → Judging s m0 m1 r
+    judge_wrong : p.at < length s → Judging s m0 m1 (Err (Broken p.at))
     unfolding first_of offset_at wrong
-    judge_wrong r l er =
-        rw er (record {
+    judge_wrong l =
+        record {
           answer = sym (answer_is false true _ _ _ (sym ed ∙ nd) (rw (outside, lt-ltb (stop_of s) (length s) (omega (arith, h.stop))) refl) refl refl refl);
           offset = h.stop;
-          places = refl;
-          factor = refl;
-          top = λ z. clash (omega arith);
+          places = tt;
+          factor = tt;
+          top = tt;
           kept = h.kept;
           len = h.len;
-        })
+        }
 
-    pub judge_incomplete : (r : Verdict) → length s ≤ p.at → r ≡ refused_verdict 14 p.at → Judging s m0 m1 r
+    judge_incomplete : length s ≤ p.at → Judging s m0 m1 (Err (Unfinished p.at))
     unfolding first_of offset_at wrong incomplete
-    judge_incomplete r l er =
+    judge_incomplete l =
         let i = stop-inside s in
         let q : stop_of s ≡ length s = omega (arith, h.stop) in
-        rw er (record {
+        record {
           answer =
               sym (answer_is false false true _ _ (sym ed ∙ nd) (rw (outside, le-ltb (stop_of s) (length s) (omega arith)) refl)
               (rw (outside, eq-eqb (stop_of s) (length s) q) refl) refl refl);
           offset = h.stop;
-          places = refl;
-          factor = refl;
-          top = λ z. clash (omega arith);
+          places = tt;
+          factor = tt;
+          top = tt;
           kept = h.kept;
           len = h.len;
-        })
+        }
+
+    judge_broken : Judging s m0 m1 (Err (stopped_at s p.at))
+    judge_broken = by (ltb p.at (length s)) refl
+      where
+        by : (t : Bool) → ltb p.at (length s) ≡ t → Judging s m0 m1 (Err (stopped_at s p.at))
+        by true e = rw e (judge_wrong (ltb-true _ _ e))
+        by false e = rw e (judge_incomplete (ltb-false _ _ e))
+
+  pub judge_stopped : (d : Bool) → d ≡ deep 0 0 s → d ≡ false → (q : Result Step Stop) (r : Refusal) → TextSays s m0 m1 q
+      → ((p : Step) → q ≡ Ok p → ⊥) → ((e : Stop) → q ≡ Err e → r ≡ stopped_at s e.at) → Judging s m0 m1 (Err r)
+  judge_stopped d ed nd (Ok p) r h n k = absurd (n p refl)
+  judge_stopped d ed nd (Err e) r h n k = rw (k e refl) (judge_broken d ed nd e h)
 
   record Tree_at (p : Step) : Type 0 where
     tree : Tree pattern
@@ -86,13 +97,13 @@ module _ (s m0 m1 : List ℕ) where
     parsed : Parsed s m0 m1 p tree
     top : Top tree (p.count - 1) m1
 
-  module _ (p : Step) (h : TextSays s m0 m1 p) (f : Fits s 0 m0 0) (o : p.ok ≡ true) where
+  module _ (p : Step) (h : TextSays s m0 m1 (Ok p)) (f : Fits s 0 m0 0) where
     tree-of : Tree_at p
     unfolding ParsedAs
     tree-of = go (tree_of s) refl h.says
       where
-        go : (x : Option (Tree pattern)) → tree_of s ≡ x → ParsedAs s m0 m1 p x → Tree_at p
-        go none e q = absurd (true≢false (sym o ∙ q))
+        go : (x : Option (Tree pattern)) → tree_of s ≡ x → ParsedAs s m0 m1 (Ok p) x → Tree_at p
+        go none e q = absurd q
         go (some t) e q = record { tree = t; is = e; parsed = q; top = text-top s m0 m1 p t e f h }
 
     pub some-node : 1 ≤ p.count
@@ -154,32 +165,32 @@ module _ (s m0 m1 : List ℕ) where
       unfolding too_many P
       many t e = ap too_many tree-of.is ∙ e
 
-      pub judge_loop : (r : Verdict) → 3 < l → r ≡ refused_verdict 6 0 → Judging s m0 m1 r
+      pub judge_loop : 3 < l → Judging s m0 m1 (Err Nested)
       unfolding first_of offset_at
-      judge_loop r ol er = rw er (record {
+      judge_loop ol = record {
         answer = sym (answer_is false false false true _ (sym ed ∙ nd) not-wrong not-incomplete (deep-nest ol) refl);
         offset = refl;
-        places = refl;
-        factor = refl;
-        top = λ z. clash (omega arith);
+        places = tt;
+        factor = tt;
+        top = tt;
         kept = h.kept;
         len = h.len;
-      })
+      }
 
-      pub judge_many : (r : Verdict) → l ≤ 3 → 256 < p.forks + p.places + 1 → r ≡ refused_verdict 7 0 → Judging s m0 m1 r
+      pub judge_many : l ≤ 3 → 256 < p.forks + p.places + 1 → Judging s m0 m1 (Err TooMany)
       unfolding first_of offset_at
-      judge_many r ol g er =
-          rw er (record {
+      judge_many ol g =
+          record {
             answer = sym (answer_is false false false false true (sym ed ∙ nd) not-wrong not-incomplete (few_nest ol) (many true (lt-ltb 256 (places_of tree-of.tree) (counted.1 g))));
             offset = refl;
-            places = refl;
-            factor = refl;
-            top = λ z. clash (omega arith);
+            places = tt;
+            factor = tt;
+            top = tt;
             kept = h.kept;
             len = h.len;
-          })
+          }
 
-      pub judge_good : l ≤ 3 → p.forks + p.places + 1 ≤ 256 → (m : ℕ) → m ≡ 2 ^ l → Judging s m0 m1 (record { answer = 0; offset = 0; places = p.forks + p.places + 1; factor = m; top = p.count - 1 })
+      pub judge_good : l ≤ 3 → p.forks + p.places + 1 ≤ 256 → (m : ℕ) → m ≡ 2 ^ l → Judging s m0 m1 (Ok (record { places = p.forks + p.places + 1; factor = m; top = p.count - 1 }))
       unfolding first_of offset_at P
       judge_good ol g m em =
           record {
@@ -187,7 +198,7 @@ module _ (s m0 m1 : List ℕ) where
             offset = refl;
             places = sym (ap P tree-of.is ∙ counted.2 g);
             factor = factor-is ol m em;
-            top = λ z p2 e2. text-top s m0 m1 p p2 e2 f h;
+            top = λ p2 e2. text-top s m0 m1 p p2 e2 f h;
             kept = h.kept;
             len = h.len;
           }

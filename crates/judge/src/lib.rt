@@ -1,22 +1,20 @@
 // A pattern's text judged: answers 4, 5 or 14, 6 and 7, the first that applies, with 5's or 14's
-// offset, P and R-3's factor F.
+// offset, as a Refusal; or P, R-3's factor F and the tree of a good one.
 #![tactic(auto)]
 
 ghost use Rattle.std.specs.Prelude.{◌≡◌};
 ghost use Rattle.primaries.specs.Readers.{Fits};
-ghost use Rattle.judge.specs.Judged.{refused_verdict, Judging};
+ghost use Rattle.judge.specs.Judged.{stopped_at, Judging};
 
 use loops::{factor_of, nesting};
 use pattern::read_text;
+use refusals::Refusal;
 use scan::too_deep;
+use text_bytes::Broken;
 
-// answer: 0 if the pattern is good, else 4, 5, 14, 6 or 7. offset: the byte at which its text is
-// wrong (5), or the text's length (14); else 0. places: P, factor: F, and top: the top node of its
-// tree, if it is good; else all three are 0.
+// What is told of a good pattern. places: P, factor: F, and top: the top node of its tree.
 #[derive(Clone, Copy)]
-pub struct Verdict {
-    pub answer: usize,
-    pub offset: usize,
+pub struct Judged {
     pub places: usize,
     pub factor: usize,
     pub top: usize,
@@ -25,49 +23,43 @@ pub struct Verdict {
 // So many unbounded quantifiers over bodies that can take no row may be nested in one another.
 const MOST_NESTED: usize = 3;
 
-fn refused(answer: usize, offset: usize) -> Verdict
-    ensures { result ≡ refused_verdict answer offset }
+// So many places a pattern may have.
+const MOST_PLACES: usize = 256;
+
+// The refusal of a text that is no pattern: it is wrong at a byte (5), or could go on where it ends
+// (14).
+fn stopped(text: &[u8], broken: Broken) -> Refusal
+    ensures { result ≡ stopped_at text.now broken.at }
 {
-    Verdict {
-        answer,
-        offset,
-        places: 0,
-        factor: 0,
-        top: 0,
+    let at = broken.at;
+    if at < text.len() {
+        Refusal::Broken { at }
+    } else {
+        Refusal::Unfinished { at }
     }
 }
 
 // Judges a text. Its tree's nodes are in the room then, if it has one.
-pub fn judge(text: &[u8], room: &mut [u16]) -> Verdict
+pub fn judge(text: &[u8], room: &mut [u16]) -> Result<Judged, Refusal>
     requires { Fits text.now 0 room.old 0 }
     ensures { Judging text.now room.old room.new result }
 {
     if too_deep(text) {
-        return refused(4, 0);
+        return Err(Refusal::TooDeep);
     }
-    let p = read_text(text, room);
-    let ok = p.ok;
-    if !ok {
-        if p.at < text.len() {
-            return refused(5, p.at);
-        }
-        return refused(14, p.at);
-    }
+    let p = read_text(text, room).map_err(|e| stopped(text, e))?;
     let top = p.count - 1;
     let nested = nesting(room, top);
     if MOST_NESTED < nested {
-        return refused(6, 0);
+        return Err(Refusal::Nested);
     }
     let places = p.forks + p.places + 1;
-    if 256 < places {
-        return refused(7, 0);
+    if MOST_PLACES < places {
+        return Err(Refusal::TooMany);
     }
-    let factor = factor_of(nested);
-    Verdict {
-        answer: 0,
-        offset: 0,
+    Ok(Judged {
         places,
-        factor,
+        factor: factor_of(nested),
         top,
-    }
+    })
 }

@@ -1,10 +1,11 @@
 -- What the answers of the readers of quantifiers say of the reading function's.
-use Rattle.std.specs.Prelude.{◌≡◌, Bool, true, false, List, ℕ, ◌≤◌, ◌<◌, length, drop}
-use Rattle.std.proofs.Math.Option.{Option, none, some}
+use Rattle.std.specs.Prelude.{◌≡◌, Bool, true, false, List, ℕ, ◌≤◌, ◌<◌, length, drop, Option, Some, None, Result, Ok, Err}
+use Rattle.std.proofs.Math.Option.{Option as Upper, none, some}
 use Rattle.rules.specs.Language.{Form, star, plus, opt, exactly, at_least, at_most, between, lower, upper}
 use Rattle.rules.specs.Reader.{bounded, Marked, unmarked, broken, marked}
+use Rattle.text_bytes.specs.Numerals.{Stops}
+use Rattle.text_bytes.specs.declared.Broken.{Broken}
 use Rattle.marks.specs.declared.Mark.{Mark}
-use Rattle.marks.specs.declared.Mark.TheVariants.{Unmarked, Broken, Found}
 
 -- a form's number
 unfoldable pub code_of : Form → ℕ
@@ -17,7 +18,7 @@ code_of (at_most m) = 6
 code_of (between n m) = 7
 
 -- an upper bound as a number: 100 for none
-unfoldable pub highest : Option ℕ → ℕ
+unfoldable pub highest : Upper ℕ → ℕ
 highest none = 100
 highest (some m) = m
 
@@ -36,19 +37,28 @@ pub record bounded_by (f : Form) (low high : ℕ) : Type 0 where
   pub fine : 1 ≤ high → low ≤ high → bounded f ≡ true
 
 pub record ShowsMark (s : List ℕ) (at : ℕ) (r : Mark) (f : Form) (z : Bool) (u : List ℕ) : Type 0 where
-  pub to : ℕ
-  pub is : r ≡ Found (code_of f) (lower f) (high_of f) z to
-  pub rest : u ≡ drop to s
-  pub on : at ≤ to
-  pub inside : to ≤ length s
+  pub codes : Codes f r.form r.low r.high
+  pub lazy : r.lazy ≡ z
+  pub rest : u ≡ drop r.at s
+  pub on : at ≤ r.at
+  pub inside : r.at ≤ length s
 
-pub record ShowsBroken (s : List ℕ) (r : Mark) (u : List ℕ) : Type 0 where
-  pub to : ℕ
-  pub is : r ≡ Broken to
-  pub rest : u ≡ drop to s
-  pub inside : to ≤ length s
+-- an answer, with a quantifier or none, or an error, says what is read
+unfoldable pub Shows : List ℕ → ℕ → Result (Option Mark) Broken → Marked → Type 0
+Shows s at (Ok None) unmarked = Unit {0}
+Shows s at (Err e) (broken u) = Stops s e u
+Shows s at (Ok (Some r)) (marked f z u) = ShowsMark s at r f z u
+Shows s at (Ok None) (broken u) = ⊥
+Shows s at (Ok None) (marked f z u) = ⊥
+Shows s at (Err e) unmarked = ⊥
+Shows s at (Err e) (marked f z u) = ⊥
+Shows s at (Ok (Some r)) unmarked = ⊥
+Shows s at (Ok (Some r)) (broken u) = ⊥
 
-unfoldable pub Shows : List ℕ → ℕ → Mark → Marked → Type 0
-Shows s at r unmarked = r ≡ Unmarked
-Shows s at r (broken u) = ShowsBroken s r u
-Shows s at r (marked f z u) = ShowsMark s at r f z u
+-- the same of an answer where a quantifier has begun
+unfoldable pub Shown : List ℕ → ℕ → Result Mark Broken → Marked → Type 0
+Shown s at r unmarked = ⊥
+Shown s at (Err e) (broken u) = Stops s e u
+Shown s at (Ok r) (marked f z u) = ShowsMark s at r f z u
+Shown s at (Err e) (marked f z u) = ⊥
+Shown s at (Ok r) (broken u) = ⊥

@@ -15,11 +15,10 @@ pub fn judge_parts(s: &[u8], parts: Parts, room: &mut [u16], measures: &[u8; 24]
 {
     let start = parts.start;
     let end = start + parts.len;
-    let v = judge::judge(&s[start..end], room);
-    let answer = v.answer;
-    if answer != 0 {
-        return refused(answer, v.offset);
-    }
+    let v = match judge::judge(&s[start..end], room) {
+        Ok(v) => v,
+        Err(e) => return refused(e.answer(), e.offset()),
+    };
     if parts.twice {
         return refused(8, 0);
     }

@@ -1,17 +1,19 @@
 -- Laws of the four readers: each is one way through one reader.
 use mathlib.Core.Path.{◌≡◌, refl, sym, ap, ◌∙◌, subst}
-use mathlib.Core.Bool.{Bool, true, false, true≢false}
+use mathlib.Core.Bool.{Bool, true, false}
 use mathlib.Core.List.{List}
-use mathlib.Core.Option.{some}
 use Prim.Native.Nat.{ℕ, zero, suc, ◌+◌, ◌*◌, ◌-◌, ◌≤◌, ◌<◌, max, min}
 use native.Mathlib.Omega.{arith}
 use lib.Dec.{eqb}
 use lib.ListN.{length, get_or, drop, length-drop}
 use borrow.Author.Tests.{eq-eqb, ne_eqb, eqb-true, eqb-false}
+use Rattle.std.specs.Prelude.{Result, Ok, Err}
 use Rattle.rules.specs.Basics.{is_letter}
+use Rattle.text_bytes.specs.Numerals.{Stops}
+use Rattle.text_bytes.specs.declared.Broken.{Broken}
 use Rattle.rules.specs.Places.{round_places, fork, place_count}
 use Rattle.rules.specs.Language.{Form, lower, upper, Rank, pattern, branch, factor, primary, Tree, one, more, last, next, bare, times, empty, group}
-use Rattle.rules.specs.Reader.{Reading, got, bad, left, peek, rest, skip_spaces, Marked, unmarked, broken, marked, quantifier, branch_ends, under, alt_on, alt_with, seq_on, seq_with, times_on, times_with, closed, parted, simple, primary_on, read, rank_of, depth}
+use Rattle.rules.specs.Reader.{Reading, got, bad, peek, rest, skip_spaces, Marked, unmarked, broken, marked, quantifier, branch_ends, under, alt_on, alt_with, seq_on, seq_with, times_on, times_with, closed, parted, simple, primary_on, read, rank_of, depth}
 use Rattle.text_bytes.proofs.ByteLaws.{inside, rest-drop}
 use Rattle.nodes.specs.Nodes.{put_node}
 use Rattle.laws.proofs.GrammarSound.{pick-both}
@@ -21,14 +23,11 @@ use Rattle.nodes.specs.declared.Sort.{Sort}
 use Rattle.nodes.specs.declared.Sort.TheVariants.{Empty, Sequence, Alternation, Group}
 use Rattle.nodes.specs.declared.Node.{Node}
 use Rattle.trees.specs.Written.{plain_node, with_mark, node_count, height, own, written}
-use Rattle.primaries.specs.Readers.{fork_of, KeptOutside, Fits, Unread, Says, On, PhraseReads, SaysHead, Wrote, HeadOn, SimpleSays, ReadsHead, FitsHead, step_to, FinishedMark, FinishedAs, FactorFinished, Joined, SkipTo, EmptyIs, ShutNeeds, Shut, ShutIs}
+use Rattle.primaries.specs.Readers.{fork_of, KeptOutside, Fits, Says, On, PhraseReads, SaysHead, Wrote, HeadOn, SimpleSays, ReadsHead, FitsHead, step_to, FinishedMark, FinishedAs, FactorFinished, Joined, SkipTo, EmptyIs, ShutNeeds, Shut, ShutIs}
 use Rattle.primaries.proofs.PrimaryLaws.{leaf_on}
 use Rattle.primaries.specs.declared.Step.{Step}
 use Rattle.primaries.specs.declared.Head.{Head}
 use Rattle.trees.proofs.ByNode.{own-height, own-places}
-
-clash : {A : Type 0} {b : Bool} → b ≡ true → b ≡ false → A
-clash p q = absurd (true≢false (sym p ∙ q))
 
 at_suc : (P : ℕ → Type 0) (k : ℕ) → ((m : ℕ) → k ≤ m → P (suc m)) → (n : ℕ) → k + 1 ≤ n → P n
 at_suc P k f zero h = absurd (omega arith)
@@ -48,10 +47,10 @@ kept_put s t i n e j f = ap (λ (u : List ℕ). get_or u j 0) e ∙ put_other s 
 
 -- ---- the readers' answers
 
-pub says-bad : (k : Rank) (s : List ℕ) (c : ℕ) (m t : List ℕ) (r : Step) (x : Reading (Tree k)) → Says k s c m t r x → r.ok ≡ false → (x ≡ bad (drop r.at s)) × (r.at ≤ length s)
+pub says-bad : (k : Rank) (s : List ℕ) (c : ℕ) (m t : List ℕ) (e : Broken) (x : Reading (Tree k)) → Says k s c m t (Err e) x → (x ≡ bad (drop e.at s)) × (e.at ≤ length s)
 unfolding Says
-says-bad k s c m t r (bad u) h e = (ap bad h.rest, h.inside)
-says-bad k s c m t r (got x u) h e = clash h.ok e
+says-bad k s c m t e (bad u) h = (ap bad h.rest, h.inside)
+says-bad k s c m t e (got x u) h = absurd h
 
 pub record Read (k : Rank) (s : List ℕ) (c : ℕ) (m t : List ℕ) (r : Step) (x : Reading (Tree k)) : Type 0 where
   pub tree : Tree k
@@ -62,15 +61,15 @@ pub record Read (k : Rank) (s : List ℕ) (c : ℕ) (m t : List ℕ) (r : Step) 
   pub forked : r.forks ≡ fork_of k tree
   pub wrote : t ≡ written tree c m
 
-pub says-got : (k : Rank) (s : List ℕ) (c : ℕ) (m t : List ℕ) (r : Step) (x : Reading (Tree k)) → Says k s c m t r x → r.ok ≡ true → Read k s c m t r x
+pub says-got : (k : Rank) (s : List ℕ) (c : ℕ) (m t : List ℕ) (r : Step) (x : Reading (Tree k)) → Says k s c m t (Ok r) x → Read k s c m t r x
 unfolding Says
-says-got k s c m t r (bad u) h e = clash e h.fails
-says-got k s c m t r (got x u) h e = record { tree = x; is = ap (got x) h.rest; count = h.count; high = h.high; placed = h.placed; forked = h.forked; wrote = h.wrote }
+says-got k s c m t r (bad u) h = absurd h
+says-got k s c m t r (got x u) h = record { tree = x; is = ap (got x) h.rest; count = h.count; high = h.high; placed = h.placed; forked = h.forked; wrote = h.wrote }
 
-head_bad : (s : List ℕ) (c : ℕ) (r : Head) (x : Reading (Tree primary)) → SaysHead s c r x → r.ok ≡ false → (x ≡ bad (drop r.at s)) × (r.at ≤ length s)
+head_bad : (s : List ℕ) (c : ℕ) (e : Broken) (x : Reading (Tree primary)) → SaysHead s c (Err e) x → (x ≡ bad (drop e.at s)) × (e.at ≤ length s)
 unfolding SaysHead
-head_bad s c r (bad u) h e = (ap bad h.rest, h.inside)
-head_bad s c r (got x u) h e = clash h.ok e
+head_bad s c e (bad u) h = (ap bad h.rest, h.inside)
+head_bad s c e (got x u) h = absurd h
 
 record ReadHead (s : List ℕ) (c : ℕ) (m t : List ℕ) (r : Head) (x : Reading (Tree primary)) : Type 0 where
   tree : Tree primary
@@ -79,36 +78,36 @@ record ReadHead (s : List ℕ) (c : ℕ) (m t : List ℕ) (r : Head) (x : Readin
   node : r.node ≡ own tree c
   wrote : t ≡ written tree c m
 
-head_got : (s : List ℕ) (c : ℕ) (m t : List ℕ) (r : Head) (x : Reading (Tree primary)) → SaysHead s c r x → Wrote c m t x → r.ok ≡ true → ReadHead s c m t r x
+head_got : (s : List ℕ) (c : ℕ) (m t : List ℕ) (r : Head) (x : Reading (Tree primary)) → SaysHead s c (Ok r) x → Wrote c m t x → ReadHead s c m t r x
 unfolding SaysHead Wrote
-head_got s c m t r (bad u) h w e = clash e h.fails
-head_got s c m t r (got x u) h w e = record { tree = x; is = ap (got x) h.rest; count = h.count; node = h.node; wrote = w }
+head_got s c m t r (bad u) h w = absurd h
+head_got s c m t r (got x u) h w = record { tree = x; is = ap (got x) h.rest; count = h.count; node = h.node; wrote = w }
 
 abbrev room_of : List ℕ → ℕ → ℕ → ℕ
 room_of s at c = 8 * (c + 2 * (length s - at))
 
 -- an answer of no reading
-no-reading : (k : Rank) (s : List ℕ) (at c : ℕ) (m t : List ℕ) (r : Step) → r.ok ≡ false → KeptOutside (8 * c) (room_of s at c) m t → length t ≡ length m
-    → ((n : ℕ) → 4 * length (drop at s) + rank_of k ≤ n → (read (suc n) k (drop at s) ≡ bad (drop r.at s)) × (r.at ≤ length s)) → PhraseReads k s at c m t r
+no-reading : (k : Rank) (s : List ℕ) (at c : ℕ) (m t : List ℕ) (e : Broken) → KeptOutside (8 * c) (room_of s at c) m t → length t ≡ length m
+    → ((n : ℕ) → 4 * length (drop at s) + rank_of k ≤ n → (read (suc n) k (drop at s) ≡ bad (drop e.at s)) × (e.at ≤ length s)) → PhraseReads k s at c m t (Err e)
 unfolding depth Says
-no-reading k s at c m t r e kp l f =
+no-reading k s at c m t e kp l f =
     record {
-      says = at_suc (λ n. Says k s c m t r (read n k (drop at s))) (4 * length (drop at s) + rank_of k)
-          (λ n h. let d = f n h in rw d.0 (record { fails = e; rest = refl; inside = d.1 }));
-      on = λ o. clash o e;
+      says = at_suc (λ n. Says k s c m t (Err e) (read n k (drop at s))) (4 * length (drop at s) + rank_of k)
+          (λ n h. let d = f n h in rw d.0 (record { rest = refl; inside = d.1 }));
+      on = tt;
       kept = kp;
       len = l;
     }
 
 -- an answer of a reading
-a-reading : (k : Rank) (s : List ℕ) (at c : ℕ) (m t : List ℕ) (r : Step) → r.ok ≡ true → On s at c r → KeptOutside (8 * c) (room_of s at c) m t → length t ≡ length m
-    → ((n : ℕ) → 4 * length (drop at s) + rank_of k ≤ n → Read k s c m t r (read (suc n) k (drop at s))) → PhraseReads k s at c m t r
+a-reading : (k : Rank) (s : List ℕ) (at c : ℕ) (m t : List ℕ) (r : Step) → On s at c r → KeptOutside (8 * c) (room_of s at c) m t → length t ≡ length m
+    → ((n : ℕ) → 4 * length (drop at s) + rank_of k ≤ n → Read k s c m t r (read (suc n) k (drop at s))) → PhraseReads k s at c m t (Ok r)
 unfolding depth Says
-a-reading k s at c m t r e o kp l f =
+a-reading k s at c m t r o kp l f =
     record {
-      says = at_suc (λ n. Says k s c m t r (read n k (drop at s))) (4 * length (drop at s) + rank_of k)
-          (λ n h. let d = f n h in rw d.is (record { ok = e; rest = refl; count = d.count; high = d.high; placed = d.placed; forked = d.forked; wrote = d.wrote }));
-      on = λ z. o;
+      says = at_suc (λ n. Says k s c m t (Ok r) (read n k (drop at s))) (4 * length (drop at s) + rank_of k)
+          (λ n h. let d = f n h in rw d.is (record { rest = refl; count = d.count; high = d.high; placed = d.placed; forked = d.forked; wrote = d.wrote }));
+      on = o;
       kept = kp;
       len = l;
     }
@@ -179,17 +178,17 @@ module _ (n : ℕ) (u : List ℕ) where
   unfolding read seq_with seq_on
   seq-two f v x e h g = simp (e, h, g)
 
-module _ (s : List ℕ) (at c : ℕ) (m0 m1 : List ℕ) (b : Step) (h : PhraseReads branch s at c m0 m1 b) where
-  pub pattern-fails : b.ok ≡ false → PhraseReads pattern s at c m0 m1 b
-  unfolding rank_of depth
-  pattern-fails e = no-reading pattern s at c m0 m1 b e h.kept h.len λ n d.
-      let x = says-bad branch s c m0 m1 b _ (h.says n (omega arith)) e in (alt_bad n (drop at s) _ x.0, x.1)
+pub pattern-fails : (s : List ℕ) (at c : ℕ) (m0 m1 : List ℕ) (e : Broken) → PhraseReads branch s at c m0 m1 (Err e) → PhraseReads pattern s at c m0 m1 (Err e)
+unfolding rank_of depth
+pattern-fails s at c m0 m1 e h = no-reading pattern s at c m0 m1 e h.kept h.len λ n d.
+    let x = says-bad branch s c m0 m1 e _ (h.says n (omega arith)) in (alt_bad n (drop at s) _ x.0, x.1)
 
-  module _ (y : ℕ) (ey : y ≡ peek (drop b.at s)) (o : b.ok ≡ true) where
-    pub pattern-ends : (y ≡ 124 → ⊥) → PhraseReads pattern s at c m0 m1 b
+module _ (s : List ℕ) (at c : ℕ) (m0 m1 : List ℕ) (b : Step) (h : PhraseReads branch s at c m0 m1 (Ok b)) where
+  module _ (y : ℕ) (ey : y ≡ peek (drop b.at s)) where
+    pub pattern-ends : (y ≡ 124 → ⊥) → PhraseReads pattern s at c m0 m1 (Ok b)
     unfolding rank_of depth node_count height fork place_count written
-    pattern-ends ny = a-reading pattern s at c m0 m1 b o (h.on o) h.kept h.len λ n d.
-        let x = says-got branch s c m0 m1 b _ (h.says n (omega arith)) o in
+    pattern-ends ny = a-reading pattern s at c m0 m1 b h.on h.kept h.len λ n d.
+        let x = says-got branch s c m0 m1 b _ (h.says n (omega arith)) in
         record {
           tree = one x.tree;
           is = alt_one n (drop at s) _ _ x.is (λ z. ny (ey ∙ z));
@@ -204,28 +203,28 @@ module _ (s : List ℕ) (at c : ℕ) (m0 m1 : List ℕ) (b : Step) (h : PhraseRe
       behind : skip_spaces (rest (drop b.at s)) ≡ drop from s
       behind = ap skip_spaces (rest-drop s b.at) ∙ sym k.0
 
-      module _ (m2 : List ℕ) (r : Step) (g : PhraseReads pattern s from b.count m1 m2 r) where
-        pub pattern-more_fails : r.ok ≡ false → PhraseReads pattern s at c m0 m2 r
+      module _ (m2 : List ℕ) where
+        pub pattern-more_fails : (e : Broken) → PhraseReads pattern s from b.count m1 m2 (Err e) → PhraseReads pattern s at c m0 m2 (Err e)
         unfolding rank_of depth under
-        pattern-more_fails e =
-            let w = h.on o in
-            no-reading pattern s at c m0 m2 r e
+        pattern-more_fails e g =
+            let w = h.on in
+            no-reading pattern s at c m0 m2 e
             (kept_on (8 * c) (room_of s at c) m0 m1 m2 h.kept (later s at c from b.count m1 m2 (omega (arith, w.on, k.1)) k.2 (omega (arith, w.some))
             (omega (arith, w.few, k.1)) g.kept))
             (g.len ∙ h.len) λ n d.
-            let x = says-got branch s c m0 m1 b _ (h.says n (omega arith)) o in
-            let z = says-bad pattern s b.count m1 m2 r _ (g.says n (omega (arith, w.on, w.inside, k.1, k.2, length-drop at s, length-drop from s))) e in
-            (alt_two n (drop at s) _ _ (drop from s) (bad (drop r.at s)) x.is (sym ey ∙ is-bar) behind z.0, z.1)
+            let x = says-got branch s c m0 m1 b _ (h.says n (omega arith)) in
+            let z = says-bad pattern s b.count m1 m2 e _ (g.says n (omega (arith, w.on, w.inside, k.1, k.2, length-drop at s, length-drop from s))) in
+            (alt_two n (drop at s) _ _ (drop from s) (bad (drop e.at s)) x.is (sym ey ∙ is-bar) behind z.0, z.1)
 
-        pub pattern-more : (m3 : List ℕ) (z : Step) → r.ok ≡ true → Joined m2 m3 Alternation 1 b r z → PhraseReads pattern s at c m0 m3 z
+        pub pattern-more : (r : Step) → PhraseReads pattern s from b.count m1 m2 (Ok r) → (m3 : List ℕ) (z : Step) → Joined m2 m3 Alternation 1 b r z → PhraseReads pattern s at c m0 m3 (Ok z)
         unfolding rank_of depth under node_count height fork place_count written
-        pattern-more m3 z e j =
-            let w = h.on o in let q = g.on e in
-            a-reading pattern s at c m0 m3 z (ap (λ (x : Step). x.ok) j.is) (joins_on s at c m0 m1 m2 m3 b r z from Alternation 1 (omega arith) w (omega (arith, k.1)) q j)
+        pattern-more r g m3 z j =
+            let w = h.on in let q = g.on in
+            a-reading pattern s at c m0 m3 z (joins_on s at c m0 m1 m2 m3 b r z from Alternation 1 (omega arith) w (omega (arith, k.1)) q j)
             (joins_kept s at c m0 m1 m2 m3 b r z from Alternation 1 w (omega (arith, k.1)) k.2 q j h.kept g.kept)
             (ap length j.wrote ∙ put_length m2 r.count _ ∙ g.len ∙ h.len) λ n d.
-            let x = says-got branch s c m0 m1 b _ (h.says n (omega arith)) o in
-            let y = says-got pattern s b.count m1 m2 r _ (g.says n (omega (arith, w.on, w.inside, k.1, k.2, length-drop at s, length-drop from s))) e in
+            let x = says-got branch s c m0 m1 b _ (h.says n (omega arith)) in
+            let y = says-got pattern s b.count m1 m2 r _ (g.says n (omega (arith, w.on, w.inside, k.1, k.2, length-drop at s, length-drop from s))) in
             record {
               tree = more x.tree y.tree;
               is = alt_two n (drop at s) _ _ (drop from s) _ x.is (sym ey ∙ is-bar) behind y.is
@@ -246,17 +245,17 @@ module _ (s : List ℕ) (at c : ℕ) (m0 m1 : List ℕ) (b : Step) (h : PhraseRe
 ended_at : (y b : ℕ) → y ≡ b → branch_ends b ≡ branch_ends y
 ended_at y b e = ap branch_ends (sym e)
 
-module _ (s : List ℕ) (at c : ℕ) (m0 m1 : List ℕ) (b : Step) (h : PhraseReads factor s at c m0 m1 b) where
-  pub branch-fails : b.ok ≡ false → PhraseReads branch s at c m0 m1 b
-  unfolding rank_of depth
-  branch-fails e = no-reading branch s at c m0 m1 b e h.kept h.len λ n d.
-      let x = says-bad factor s c m0 m1 b _ (h.says n (omega arith)) e in (seq-bad n (drop at s) _ x.0, x.1)
+pub branch-fails : (s : List ℕ) (at c : ℕ) (m0 m1 : List ℕ) (e : Broken) → PhraseReads factor s at c m0 m1 (Err e) → PhraseReads branch s at c m0 m1 (Err e)
+unfolding rank_of depth
+branch-fails s at c m0 m1 e h = no-reading branch s at c m0 m1 e h.kept h.len λ n d.
+    let x = says-bad factor s c m0 m1 e _ (h.says n (omega arith)) in (seq-bad n (drop at s) _ x.0, x.1)
 
-  module _ (y : ℕ) (ey : y ≡ peek (drop b.at s)) (o : b.ok ≡ true) where
-    pub branch-ends : branch_ends y ≡ true → PhraseReads branch s at c m0 m1 b
+module _ (s : List ℕ) (at c : ℕ) (m0 m1 : List ℕ) (b : Step) (h : PhraseReads factor s at c m0 m1 (Ok b)) where
+  module _ (y : ℕ) (ey : y ≡ peek (drop b.at s)) where
+    pub branch-ends : branch_ends y ≡ true → PhraseReads branch s at c m0 m1 (Ok b)
     unfolding rank_of depth node_count height fork place_count written
-    branch-ends ny = a-reading branch s at c m0 m1 b o (h.on o) h.kept h.len λ n d.
-        let x = says-got factor s c m0 m1 b _ (h.says n (omega arith)) o in
+    branch-ends ny = a-reading branch s at c m0 m1 b h.on h.kept h.len λ n d.
+        let x = says-got factor s c m0 m1 b _ (h.says n (omega arith)) in
         record {
           tree = last x.tree;
           is = seq-one n (drop at s) _ _ x.is (ended_at y _ ey ∙ ny);
@@ -267,29 +266,29 @@ module _ (s : List ℕ) (at c : ℕ) (m0 m1 : List ℕ) (b : Step) (h : PhraseRe
           wrote = x.wrote;
         }
 
-  module _ (m2 : List ℕ) (r : Step) (g : PhraseReads branch s b.at b.count m1 m2 r) where
-    module _ (y : ℕ) (ey : y ≡ peek (drop b.at s)) (o : b.ok ≡ true) (ne : branch_ends y ≡ false) where
-      pub branch-more_fails : r.ok ≡ false → PhraseReads branch s at c m0 m2 r
+  module _ (m2 : List ℕ) where
+    module _ (y : ℕ) (ey : y ≡ peek (drop b.at s)) (ne : branch_ends y ≡ false) where
+      pub branch-more_fails : (e : Broken) → PhraseReads branch s b.at b.count m1 m2 (Err e) → PhraseReads branch s at c m0 m2 (Err e)
       unfolding rank_of depth under
-      branch-more_fails e =
-          let w = h.on o in
-          no-reading branch s at c m0 m2 r e
+      branch-more_fails e g =
+          let w = h.on in
+          no-reading branch s at c m0 m2 e
           (kept_on (8 * c) (room_of s at c) m0 m1 m2 h.kept (later s at c b.at b.count m1 m2 (omega (arith, w.on)) w.inside (omega (arith, w.some))
           (omega (arith, w.few)) g.kept))
           (g.len ∙ h.len) λ n d.
-          let x = says-got factor s c m0 m1 b _ (h.says n (omega arith)) o in
-          let z = says-bad branch s b.count m1 m2 r _ (g.says n (omega (arith, w.on, w.inside, length-drop at s, length-drop b.at s))) e in
-          (seq-two n (drop at s) _ _ (bad (drop r.at s)) x.is (ended_at y _ ey ∙ ne) z.0, z.1)
+          let x = says-got factor s c m0 m1 b _ (h.says n (omega arith)) in
+          let z = says-bad branch s b.count m1 m2 e _ (g.says n (omega (arith, w.on, w.inside, length-drop at s, length-drop b.at s))) in
+          (seq-two n (drop at s) _ _ (bad (drop e.at s)) x.is (ended_at y _ ey ∙ ne) z.0, z.1)
 
-      pub branch-more : (m3 : List ℕ) (z : Step) → r.ok ≡ true → Joined m2 m3 Sequence 0 b r z → PhraseReads branch s at c m0 m3 z
+      pub branch-more : (r : Step) → PhraseReads branch s b.at b.count m1 m2 (Ok r) → (m3 : List ℕ) (z : Step) → Joined m2 m3 Sequence 0 b r z → PhraseReads branch s at c m0 m3 (Ok z)
       unfolding rank_of depth under node_count height fork place_count written
-      branch-more m3 z e j =
-          let w = h.on o in let q = g.on e in
-          a-reading branch s at c m0 m3 z (ap (λ (x : Step). x.ok) j.is) (joins_on s at c m0 m1 m2 m3 b r z b.at Sequence 0 (omega arith) w (omega arith) q j)
+      branch-more r g m3 z j =
+          let w = h.on in let q = g.on in
+          a-reading branch s at c m0 m3 z (joins_on s at c m0 m1 m2 m3 b r z b.at Sequence 0 (omega arith) w (omega arith) q j)
           (joins_kept s at c m0 m1 m2 m3 b r z b.at Sequence 0 w (omega arith) w.inside q j h.kept g.kept)
           (ap length j.wrote ∙ put_length m2 r.count _ ∙ g.len ∙ h.len) λ n d.
-          let x = says-got factor s c m0 m1 b _ (h.says n (omega arith)) o in
-          let y = says-got branch s b.count m1 m2 r _ (g.says n (omega (arith, w.on, w.inside, length-drop at s, length-drop b.at s))) e in
+          let x = says-got factor s c m0 m1 b _ (h.says n (omega arith)) in
+          let y = says-got branch s b.count m1 m2 r _ (g.says n (omega (arith, w.on, w.inside, length-drop at s, length-drop b.at s))) in
           record {
             tree = next x.tree y.tree;
             is = seq-two n (drop at s) _ _ _ x.is (ended_at y0 _ ey ∙ ne) y.is
@@ -319,16 +318,15 @@ module _ (n : ℕ) (u : List ℕ) where
   unfolding read times_with
   times-got x v k e q = simp (e, q)
 
-module _ (s : List ℕ) (at c : ℕ) (m0 m1 : List ℕ) (p : Head) (h : ReadsHead s at c m0 m1 p) where
-  pub factor-fails : (r : Step) → p.ok ≡ false → (r.ok ≡ false) × (r.at ≡ p.at) → PhraseReads factor s at c m0 m1 r
-  unfolding rank_of depth
-  factor-fails r e er = no-reading factor s at c m0 m1 r er.0 h.kept h.len λ n d.
-      let x = head_bad s c p _ (h.says n (omega arith)) e in
-      (times-bad n (drop at s) _ x.0 ∙ ap (λ (k : ℕ). bad (drop k s)) (sym er.1), omega (arith, x.1, er.1))
+pub factor-fails : (s : List ℕ) (at c : ℕ) (m0 m1 : List ℕ) (e : Broken) → ReadsHead s at c m0 m1 (Err e) → PhraseReads factor s at c m0 m1 (Err e)
+unfolding rank_of depth
+factor-fails s at c m0 m1 e h = no-reading factor s at c m0 m1 e h.kept h.len λ n d.
+    let x = head_bad s c e _ (h.says n (omega arith)) in (times-bad n (drop at s) _ x.0, x.1)
 
-  pub factor-fits : Fits s at m0 c → p.ok ≡ true → FitsHead s m1 p
-  factor-fits f o =
-      let w = h.on o in
+module _ (s : List ℕ) (at c : ℕ) (m0 m1 : List ℕ) (p : Head) (h : ReadsHead s at c m0 m1 (Ok p)) where
+  pub factor-fits : Fits s at m0 c → FitsHead s m1 p
+  factor-fits f =
+      let w = h.on in
       record {
         in_text = w.inside;
         holding = record {
@@ -339,18 +337,18 @@ module _ (s : List ℕ) (at c : ℕ) (m0 m1 : List ℕ) (p : Head) (h : ReadsHea
         few_places = w.few_places;
       }
 
-  module _ (m2 : List ℕ) (r : Step) (o : p.ok ≡ true) where
+  module _ (m2 : List ℕ) where
     put_kept : (n : Node) → m2 ≡ put_node m1 p.count n → KeptOutside (8 * c) (room_of s at c) m0 m2
     put_kept n e =
-        let w = h.on o in
+        let w = h.on in
         kept_on (8 * c) (room_of s at c) m0 m1 m2 h.kept
         (kept_wide (8 * p.count) (8 * p.count + 8) (8 * c) (room_of s at c) m1 m2 (omega (arith, w.some)) (omega (arith, w.few, w.inside, w.on))
         (kept_put m1 m2 p.count n e))
 
-    step_on : (to n : ℕ) → n ≤ 257 → p.at ≤ to → to ≤ length s → r ≡ step_to to p n → On s at c r
-    step_on to n g l i e =
-        let w = h.on o in
-        rw e (record {
+    step_on : (to n : ℕ) → n ≤ 257 → p.at ≤ to → to ≤ length s → On s at c (step_to to p n)
+    step_on to n g l i =
+        let w = h.on in
+        record {
           on = omega (arith, w.on);
           inside = i;
           some = omega (arith, w.some);
@@ -358,63 +356,63 @@ module _ (s : List ℕ) (at c : ℕ) (m0 m1 : List ℕ) (p : Head) (h : ReadsHea
           low = omega (arith, w.low);
           few_places = g;
           few_forks = omega arith;
-        })
+        }
 
-    factor-bare : quantifier (drop p.at s) ≡ unmarked → r ≡ step_to p.at p p.node.places → m2 ≡ put_node m1 p.count p.node → PhraseReads factor s at c m0 m2 r
+    factor-bare : quantifier (drop p.at s) ≡ unmarked → m2 ≡ put_node m1 p.count p.node → PhraseReads factor s at c m0 m2 (Ok (step_to p.at p p.node.places))
     unfolding rank_of depth node_count height place_count written times_on
-    factor-bare q e w =
-        a-reading factor s at c m0 m2 r (ap (λ (x : Step). x.ok) e) (step_on p.at p.node.places (h.on o).few_places (omega arith) (h.on o).inside e)
+    factor-bare q w =
+        a-reading factor s at c m0 m2 (step_to p.at p p.node.places) (step_on p.at p.node.places h.on.few_places (omega arith) h.on.inside)
         (put_kept p.node w)
         (ap length w ∙ put_length m1 p.count p.node ∙ h.len) λ n d.
-        let x = head_got s c m0 m1 p _ (h.says n (omega arith)) (h.wrote n (omega arith)) o in
+        let x = head_got s c m0 m1 p _ (h.says n (omega arith)) (h.wrote n (omega arith)) in
         record {
           tree = bare x.tree;
-          is = times-got n (drop at s) _ _ unmarked x.is q ∙ ap (λ (i : ℕ). got (bare x.tree) (drop i s)) (sym (ap (λ (y : Step). y.at) e));
-          count = ap (λ (y : Step). y.count) e ∙ (let e1 = x.count in let e2 : p.count + 1 ≡ c + (node_count x.tree + 1) = omega arith in e2);
-          high = ap (λ (y : Step). y.height) e ∙ ap (λ (y : Node). y.height) x.node ∙ own-height x.tree c;
-          placed = ap (λ (y : Step). y.places) e ∙ ap (λ (y : Node). y.places) x.node ∙ own-places x.tree c;
-          forked = ap (λ (y : Step). y.forks) e;
+          is = times-got n (drop at s) _ _ unmarked x.is q;
+          count = (let e1 = x.count in let e2 : p.count + 1 ≡ c + (node_count x.tree + 1) = omega arith in e2);
+          high = ap (λ (y : Node). y.height) x.node ∙ own-height x.tree c;
+          placed = ap (λ (y : Node). y.places) x.node ∙ own-places x.tree c;
+          forked = refl;
           wrote = w ∙ ap (λ (i : ℕ). put_node m1 i p.node) x.count ∙ ap (put_node m1 (c + node_count x.tree)) x.node
               ∙ ap (λ (y : List ℕ). put_node y (c + node_count x.tree) (own x.tree c)) x.wrote;
         }
 
-    factor-broken : (u : List ℕ) → quantifier (drop p.at s) ≡ broken u → Unread s r.ok r.at u → m2 ≡ m1 → PhraseReads factor s at c m0 m2 r
+    factor-broken : (u : List ℕ) (e : Broken) → quantifier (drop p.at s) ≡ broken u → Stops s e u → m2 ≡ m1 → PhraseReads factor s at c m0 m2 (Err e)
     unfolding rank_of depth times_on
-    factor-broken u q e w =
-        no-reading factor s at c m0 m2 r e.fails (subst (KeptOutside (8 * c) (room_of s at c) m0) (sym w) h.kept) (ap length w ∙ h.len) λ n d.
-        let x = head_got s c m0 m1 p _ (h.says n (omega arith)) (h.wrote n (omega arith)) o in
-        (times-got n (drop at s) _ _ (broken u) x.is q ∙ ap bad e.rest, e.inside)
+    factor-broken u e q g w =
+        no-reading factor s at c m0 m2 e (subst (KeptOutside (8 * c) (room_of s at c) m0) (sym w) h.kept) (ap length w ∙ h.len) λ n d.
+        let x = head_got s c m0 m1 p _ (h.says n (omega arith)) (h.wrote n (omega arith)) in
+        (times-got n (drop at s) _ _ (broken u) x.is q ∙ ap bad g.rest, g.inside)
 
-    factor-marked : (f : Form) (z : Bool) (u : List ℕ) → quantifier (drop p.at s) ≡ marked f z u → FinishedMark s m1 m2 p r f z u → PhraseReads factor s at c m0 m2 r
+    factor-marked : (r : Result Step Broken) (f : Form) (z : Bool) (u : List ℕ) → quantifier (drop p.at s) ≡ marked f z u → (g : FinishedMark s m1 m2 p r f z u)
+        → PhraseReads factor s at c m0 m2 (Ok (step_to g.to p (min (round_places (lower f) (upper f) p.node.places) 257)))
     unfolding rank_of depth node_count height place_count written times_on
-    factor-marked f z u q g =
-        let e = g.is in
-        a-reading factor s at c m0 m2 r (ap (λ (x : Step). x.ok) e) (step_on g.to (min (round_places (lower f) (upper f) p.node.places) 257) (omega arith) g.on
-        g.inside e) (put_kept (with_mark p.node f z) g.wrote)
+    factor-marked r f z u q g =
+        a-reading factor s at c m0 m2 (step_to g.to p (min (round_places (lower f) (upper f) p.node.places) 257))
+        (step_on g.to (min (round_places (lower f) (upper f) p.node.places) 257) (omega arith) g.on g.inside) (put_kept (with_mark p.node f z) g.wrote)
         (ap length g.wrote ∙ put_length m1 p.count (with_mark p.node f z) ∙ h.len) λ n d.
-        let x = head_got s c m0 m1 p _ (h.says n (omega arith)) (h.wrote n (omega arith)) o in
+        let x = head_got s c m0 m1 p _ (h.says n (omega arith)) (h.wrote n (omega arith)) in
         record {
           tree = times x.tree f z;
-          is = times-got n (drop at s) _ _ (marked f z u) x.is q ∙ ap (got (times x.tree f z)) g.rest
-              ∙ ap (λ (i : ℕ). got (times x.tree f z) (drop i s)) (sym (ap (λ (y : Step). y.at) e));
-          count = ap (λ (y : Step). y.count) e ∙ (let e1 = x.count in let e2 : p.count + 1 ≡ c + (node_count x.tree + 1) = omega arith in e2);
-          high = ap (λ (y : Step). y.height) e ∙ ap (λ (y : Node). y.height) x.node ∙ own-height x.tree c;
-          placed = ap (λ (y : Step). y.places) e ∙ ap (λ (y : Node). min (round_places (lower f) (upper f) y.places) 257) x.node
+          is = times-got n (drop at s) _ _ (marked f z u) x.is q ∙ ap (got (times x.tree f z)) g.rest;
+          count = (let e1 = x.count in let e2 : p.count + 1 ≡ c + (node_count x.tree + 1) = omega arith in e2);
+          high = ap (λ (y : Node). y.height) x.node ∙ own-height x.tree c;
+          placed = ap (λ (y : Node). min (round_places (lower f) (upper f) y.places) 257) x.node
               ∙ ap (λ (i : ℕ). min (round_places (lower f) (upper f) i) 257) (own-places x.tree c) ∙ cap-rounds (lower f) (upper f) (min (place_count x.tree) 257)
               (place_count x.tree) (omega arith);
-          forked = ap (λ (y : Step). y.forks) e;
+          forked = refl;
           wrote = g.wrote ∙ ap (λ (i : ℕ). put_node m1 i (with_mark p.node f z)) x.count ∙ ap (λ (y : Node). put_node m1 (c + node_count x.tree) (with_mark y f z)) x.node
               ∙ ap (λ (y : List ℕ). put_node y (c + node_count x.tree) (with_mark (own x.tree c) f z)) x.wrote;
         }
 
-    pub factor-ends : FactorFinished s m1 m2 p r → PhraseReads factor s at c m0 m2 r
+    pub factor-ends : (r : Result Step Broken) → FactorFinished s m1 m2 p r → PhraseReads factor s at c m0 m2 r
     unfolding FinishedAs
-    factor-ends g = by (quantifier (drop p.at s)) refl g.ends
+    factor-ends r g = by r (quantifier (drop p.at s)) refl g.ends
       where
-        by : (k : Marked) → quantifier (drop p.at s) ≡ k → FinishedAs s m1 m2 p r k → PhraseReads factor s at c m0 m2 r
-        by unmarked q f = factor-bare q f.0 f.1
-        by (broken u) q f = factor-broken u q f.0 f.1
-        by (marked f z u) q e = factor-marked f z u q e
+        by : (r : Result Step Broken) (k : Marked) → quantifier (drop p.at s) ≡ k → FinishedAs s m1 m2 p r k → PhraseReads factor s at c m0 m2 r
+        by r unmarked q f = rw f.0 (factor-bare q f.1)
+        by (Err e) (broken u) q f = factor-broken u e q f.0 f.1
+        by (Ok r) (broken u) q f = absurd f.0
+        by r (marked f z u) q e = rw e.is (factor-marked r f z u q e)
 
 -- ---- primary
 
@@ -447,34 +445,34 @@ unfolding closed
 shut-bad p v h = simp (ne_eqb (peek v) 41 h)
 
 -- an answer of no reading, and of a reading
-no-head_reading : (s : List ℕ) (at c : ℕ) (m t : List ℕ) (r : Head) → r.ok ≡ false → KeptOutside (8 * c) (room_of s at c) m t → length t ≡ length m
-    → ((n : ℕ) → 4 * length (drop at s) ≤ n → (read (suc n) primary (drop at s) ≡ bad (drop r.at s)) × (r.at ≤ length s)) → ReadsHead s at c m t r
+no-head_reading : (s : List ℕ) (at c : ℕ) (m t : List ℕ) (e : Broken) → KeptOutside (8 * c) (room_of s at c) m t → length t ≡ length m
+    → ((n : ℕ) → 4 * length (drop at s) ≤ n → (read (suc n) primary (drop at s) ≡ bad (drop e.at s)) × (e.at ≤ length s)) → ReadsHead s at c m t (Err e)
 unfolding depth rank_of SaysHead Wrote
-no-head_reading s at c m t r e kp l f =
+no-head_reading s at c m t e kp l f =
     record {
-      says = λ n h. at_suc (λ n. SaysHead s c r (read n primary (drop at s))) (4 * length (drop at s))
-          (λ n h. let d = f n h in rw d.0 (record { fails = e; rest = refl; inside = d.1 })) n (omega arith);
+      says = λ n h. at_suc (λ n. SaysHead s c (Err e) (read n primary (drop at s))) (4 * length (drop at s))
+          (λ n h. let d = f n h in rw d.0 (record { rest = refl; inside = d.1 })) n (omega arith);
       wrote = λ n h. at_suc (λ n. Wrote c m t (read n primary (drop at s))) (4 * length (drop at s)) (λ n h. rw (f n h).0 tt) n (omega arith);
-      on = λ o. clash o e;
+      on = tt;
       kept = kp;
       len = l;
     }
 
-a-head_reading : (s : List ℕ) (at c : ℕ) (m t : List ℕ) (r : Head) → r.ok ≡ true → HeadOn s at c r → KeptOutside (8 * c) (room_of s at c) m t → length t ≡ length m
-    → ((n : ℕ) → 4 * length (drop at s) ≤ n → ReadHead s c m t r (read (suc n) primary (drop at s))) → ReadsHead s at c m t r
+a-head_reading : (s : List ℕ) (at c : ℕ) (m t : List ℕ) (r : Head) → HeadOn s at c r → KeptOutside (8 * c) (room_of s at c) m t → length t ≡ length m
+    → ((n : ℕ) → 4 * length (drop at s) ≤ n → ReadHead s c m t r (read (suc n) primary (drop at s))) → ReadsHead s at c m t (Ok r)
 unfolding depth rank_of SaysHead Wrote
-a-head_reading s at c m t r e o kp l f =
+a-head_reading s at c m t r o kp l f =
     record {
-      says = λ n h. at_suc (λ n. SaysHead s c r (read n primary (drop at s))) (4 * length (drop at s))
-          (λ n h. let d = f n h in rw d.is (record { ok = e; rest = refl; count = d.count; node = d.node })) n (omega arith);
+      says = λ n h. at_suc (λ n. SaysHead s c (Ok r) (read n primary (drop at s))) (4 * length (drop at s))
+          (λ n h. let d = f n h in rw d.is (record { rest = refl; count = d.count; node = d.node })) n (omega arith);
       wrote = λ n h. at_suc (λ n. Wrote c m t (read n primary (drop at s))) (4 * length (drop at s)) (λ n h. let d = f n h in rw d.is d.wrote) n (omega arith);
-      on = λ z. o;
+      on = o;
       kept = kp;
       len = l;
     }
 
 module _ (s : List ℕ) (at c : ℕ) (m0 : List ℕ) (b : ℕ) (eb : b ≡ peek (drop at s)) where
-  pub primary-simple : (r : Head) → (b ≡ 40 → ⊥) → SimpleSays s at c r → ReadsHead s at c m0 m0 r
+  pub primary-simple : (r : Result Head Broken) → (b ≡ 40 → ⊥) → SimpleSays s at c r → ReadsHead s at c m0 m0 r
   unfolding depth rank_of
   primary-simple r e h =
       record {
@@ -491,12 +489,12 @@ module _ (s : List ℕ) (at c : ℕ) (m0 : List ℕ) (b : ℕ) (eb : b ≡ peek 
     opened : skip_spaces (rest (drop at s)) ≡ drop from s
     opened = ap skip_spaces (rest-drop s at) ∙ sym k.0
 
-    pub primary-empty : (r : Head) → y ≡ 41 → EmptyIs s from c r → ReadsHead s at c m0 m0 r
+    pub primary-empty : (r : Head) → y ≡ 41 → EmptyIs s from c r → ReadsHead s at c m0 m0 (Ok r)
     unfolding node_count own written
     primary-empty r e g =
         let q = g.skips in
-        a-head_reading s at c m0 m0 r (ap (λ (x : Head). x.ok) g.is) (subst (HeadOn s at c) (sym g.is)
-        (leaf_on s at c g.to Empty 0 (plain_node Empty 0 0 0 0) (omega arith) (omega (arith, k.1, q.1)) q.2 refl))
+        a-head_reading s at c m0 m0 r (subst (HeadOn s at c) (sym g.is)
+        (leaf_on s at c (record { at = g.to; count = c; node = plain_node Empty 0 0 0 0 }) Empty 0 (omega arith) (omega (arith, k.1, q.1)) q.2 refl refl))
         (kept_none (8 * c) (room_of s at c) m0) refl λ i d.
         record {
           tree = empty;
@@ -512,84 +510,80 @@ module _ (s : List ℕ) (at c : ℕ) (m0 : List ℕ) (b : ℕ) (eb : b ≡ peek 
         let i = inside s at 40 (omega arith) (sym eb ∙ op) in
         (omega (arith, k.1, k.2), record { in_text = k.2; fits = omega (arith, k.1, k.2, f.fits); small = omega (arith, k.1, k.2, f.small) })
 
-    module _ (f : Fits s at m0 c) (m1 : List ℕ) (p : Step) (h : PhraseReads pattern s from c m0 m1 p) where
-      inner_kept : KeptOutside (8 * c) (room_of s at c) m0 m1
-      inner_kept = kept_wide (8 * c) (room_of s from c) (8 * c) (room_of s at c) m0 m1 (omega arith) (omega (arith, k.1, k.2)) h.kept
+    inner_kept : (m1 : List ℕ) → KeptOutside (8 * c) (room_of s from c) m0 m1 → KeptOutside (8 * c) (room_of s at c) m0 m1
+    inner_kept m1 q = kept_wide (8 * c) (room_of s from c) (8 * c) (room_of s at c) m0 m1 (omega arith) (omega (arith, k.1, k.2)) q
 
-      deep : (n : ℕ) → 4 * length (drop at s) ≤ n → depth pattern (drop from s) ≤ n
-      unfolding depth rank_of
-      deep n d = let i = inside s at 40 (omega arith) (sym eb ∙ op) in omega (arith, k.1, k.2, length-drop at s, length-drop from s)
+    deep : (n : ℕ) → 4 * length (drop at s) ≤ n → depth pattern (drop from s) ≤ n
+    unfolding depth rank_of
+    deep n d = let i = inside s at 40 (omega arith) (sym eb ∙ op) in omega (arith, k.1, k.2, length-drop at s, length-drop from s)
 
+    module _ (ny : y ≡ 41 → ⊥) where
+      read-inner : (n : ℕ) (x : Reading (Tree pattern)) → read n pattern (drop from s) ≡ x → read (suc n) primary (drop at s) ≡ closed x
+      read-inner n x e = prim_group n (drop at s) (drop from s) x (sym eb ∙ op) opened (λ z. ny (ey ∙ z)) e
+
+      pub group-fails : (m1 : List ℕ) (e : Broken) → PhraseReads pattern s from c m0 m1 (Err e) → ReadsHead s at c m0 m1 (Err e)
+      unfolding closed
+      group-fails m1 e h = no-head_reading s at c m0 m1 e (inner_kept m1 h.kept) h.len λ n d.
+          let x = says-bad pattern s c m0 m1 e _ (h.says n (deep n d)) in (read-inner n _ x.0, x.1)
+
+    module _ (f : Fits s at m0 c) (m1 : List ℕ) (p : Step) (h : PhraseReads pattern s from c m0 m1 (Ok p)) where
       pub primary-needs : ShutNeeds p
       primary-needs =
+          let w = h.on in
           record {
-            some = λ o. let w = h.on o in omega (arith, w.some);
-            low = λ o. let w = h.on o in omega (arith, w.low, w.few, w.inside, w.on, k.1, f.small);
-            few_places = λ o. (h.on o).few_places;
-            few_forks = λ o. (h.on o).few_forks;
+            some = omega (arith, w.some);
+            low = omega (arith, w.low, w.few, w.inside, w.on, k.1, f.small);
+            few_places = w.few_places;
+            few_forks = w.few_forks;
           }
 
-      module _ (ny : y ≡ 41 → ⊥) (r : Head) (g : ShutIs s p r) where
-        read-inner : (n : ℕ) (x : Reading (Tree pattern)) → read n pattern (drop from s) ≡ x → read (suc n) primary (drop at s) ≡ closed x
-        read-inner n x e = prim_group n (drop at s) (drop from s) x (sym eb ∙ op) opened (λ z. ny (ey ∙ z)) e
+      module _ (ny : y ≡ 41 → ⊥) where
+        group-open : (peek (drop p.at s) ≡ 41 → ⊥) → ReadsHead s at c m0 m1 (Err (record { at = p.at }))
+        group-open nz = no-head_reading s at c m0 m1 (record { at = p.at }) (inner_kept m1 h.kept) h.len λ n d.
+            let x = says-got pattern s c m0 m1 p _ (h.says n (deep n d)) in
+            (read-inner ny n _ x.is ∙ shut-bad x.tree (drop p.at s) nz, h.on.inside)
 
-        group-fails : p.ok ≡ false → ReadsHead s at c m0 m1 r
-        unfolding closed
-        group-fails e = no-head_reading s at c m0 m1 r (g.unread e).0 inner_kept h.len λ n d.
-            let x = says-bad pattern s c m0 m1 p _ (h.says n (deep n d)) e in
-            (read-inner n _ x.0 ∙ ap (λ (k : ℕ). bad (drop k s)) (sym (g.unread e).1), omega (arith, x.1, (g.unread e).1))
+        module _ (r : Result Head Broken) where
+          group-shut : peek (drop p.at s) ≡ 41 → (q : Shut s p r)
+              → ReadsHead s at c m0 m1 (Ok (record { at = q.to; count = p.count; node = plain_node Group (p.count - 1) 0 (p.height + 1) (min (p.forks + p.places) 257) }))
+          unfolding node_count height own written
+          group-shut e q =
+              let w = h.on in
+              let l = q.skips in
+              a-head_reading s at c m0 m1 (record { at = q.to; count = p.count; node = plain_node Group (p.count - 1) 0 (p.height + 1) (min (p.forks + p.places) 257) })
+              (record {
+                on = omega (arith, w.on, k.1, l.1);
+                inside = l.2;
+                some = omega (arith, w.some);
+                few = omega (arith, w.few, w.on, k.1, l.1);
+                low = omega (arith, w.low);
+                few_places = omega arith;
+                small = record {
+                  form = omega arith;
+                  low = omega arith;
+                  high = omega arith;
+                  left = omega (arith, w.few, w.inside, w.on, k.1, f.small);
+                  right = omega arith;
+                  height = omega (arith, w.low, w.few, w.inside, w.on, k.1, f.small);
+                  places = omega arith;
+                };
+              })
+              (inner_kept m1 h.kept) h.len λ i d.
+              let x = says-got pattern s c m0 m1 p _ (h.says i (deep i d)) in
+              record {
+                tree = group x.tree;
+                is = read-inner ny i _ x.is ∙ shut-got x.tree (drop p.at s) e ∙ ap (got (group x.tree)) (ap skip_spaces (rest-drop s p.at) ∙ sym l.0);
+                count = x.count;
+                node = ap (λ (i : ℕ). plain_node Group (i - 1) 0 (p.height + 1) (min (p.forks + p.places) 257)) x.count
+                    ∙ ap (λ (i : ℕ). plain_node Group (c + node_count x.tree - 1) 0 (i + 1) (min (p.forks + p.places) 257)) x.high
+                    ∙ ap (plain_node Group (c + node_count x.tree - 1) 0 (height x.tree + 1))
+                    (let e1 = x.placed in let e2 = x.forked in let e3 : min (p.forks + p.places) 257 ≡ min (fork x.tree + place_count x.tree) 257 = omega arith in e3);
+                wrote = x.wrote;
+              }
 
-        group-open : p.ok ≡ true → (peek (drop p.at s) ≡ 41 → ⊥) → ReadsHead s at c m0 m1 r
-        group-open o nz = no-head_reading s at c m0 m1 r (g.open_still o nz).0 inner_kept h.len λ n d.
-            let x = says-got pattern s c m0 m1 p _ (h.says n (deep n d)) o in (
-              read-inner n _ x.is ∙ shut-bad x.tree (drop p.at s) nz ∙ ap (λ (k : ℕ). bad (drop k s)) (sym (g.open_still o nz).1),
-              omega (arith, (h.on o).inside, (g.open_still o nz).1),
-            )
-
-        group-shut : p.ok ≡ true → peek (drop p.at s) ≡ 41 → Shut s p r → ReadsHead s at c m0 m1 r
-        unfolding node_count height own written
-        group-shut o e q =
-            let w = h.on o in
-            let l = q.skips in
-            a-head_reading s at c m0 m1 r (ap (λ (x : Head). x.ok) q.is)
-            (subst (HeadOn s at c) (sym q.is) (record {
-              on = omega (arith, w.on, k.1, l.1);
-              inside = l.2;
-              some = omega (arith, w.some);
-              few = omega (arith, w.few, w.on, k.1, l.1);
-              low = omega (arith, w.low);
-              few_places = omega arith;
-              small = record {
-                form = omega arith;
-                low = omega arith;
-                high = omega arith;
-                left = omega (arith, w.few, w.inside, w.on, k.1, f.small);
-                right = omega arith;
-                height = omega (arith, w.low, w.few, w.inside, w.on, k.1, f.small);
-                places = omega arith;
-              };
-            }))
-            inner_kept h.len λ i d.
-            let x = says-got pattern s c m0 m1 p _ (h.says i (deep i d)) o in
-            record {
-              tree = group x.tree;
-              is = read-inner i _ x.is ∙ shut-got x.tree (drop p.at s) e ∙ ap (got (group x.tree)) (ap skip_spaces (rest-drop s p.at) ∙ sym l.0)
-                  ∙ ap (λ (j : ℕ). got (group x.tree) (drop j s)) (sym (ap (λ (x : Head). x.at) q.is));
-              count = ap (λ (x : Head). x.count) q.is ∙ x.count;
-              node = ap (λ (x : Head). x.node) q.is ∙ ap (λ (i : ℕ). plain_node Group (i - 1) 0 (p.height + 1) (min (p.forks + p.places) 257)) x.count
-                  ∙ ap (λ (i : ℕ). plain_node Group (c + node_count x.tree - 1) 0 (i + 1) (min (p.forks + p.places) 257)) x.high
-                  ∙ ap (plain_node Group (c + node_count x.tree - 1) 0 (height x.tree + 1))
-                  (let e1 = x.placed in let e2 = x.forked in let e3 : min (p.forks + p.places) 257 ≡ min (fork x.tree + place_count x.tree) 257 = omega arith in e3);
-              wrote = x.wrote;
-            }
-
-        pub primary-group : ReadsHead s at c m0 m1 r
-        primary-group = on-ok p.ok refl
-          where
-            on-shut : p.ok ≡ true → (t : Bool) → eqb (peek (drop p.at s)) 41 ≡ t → ReadsHead s at c m0 m1 r
-            on-shut o true e = group-shut o (eqb-true _ _ e) (g.shuts o (eqb-true _ _ e))
-            on-shut o false e = group-open o (eqb-false _ _ e)
-
-            on-ok : (t : Bool) → p.ok ≡ t → ReadsHead s at c m0 m1 r
-            on-ok true o = on-shut o (eqb (peek (drop p.at s)) 41) refl
-            on-ok false o = group-fails o
+          pub primary-group : ShutIs s p r → ReadsHead s at c m0 m1 r
+          primary-group g = on-shut (eqb (peek (drop p.at s)) 41) refl
+            where
+              on-shut : (t : Bool) → eqb (peek (drop p.at s)) 41 ≡ t → ReadsHead s at c m0 m1 r
+              on-shut true e = let q = g.shuts (eqb-true _ _ e) in rw q.is (group-shut (eqb-true _ _ e) q)
+              on-shut false e = rw (g.open_still (eqb-false _ _ e)) (group-open (eqb-false _ _ e))

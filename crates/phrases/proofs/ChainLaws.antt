@@ -1,6 +1,5 @@
 -- Laws of joining parts from the last on.
 use mathlib.Core.Path.{◌≡◌, refl, sym, ap, ◌∙◌, subst}
-use mathlib.Core.Bool.{true}
 use mathlib.Core.List.{List, [], ◌∷◌}
 use Prim.Native.Nat.{ℕ, ◌+◌, ◌*◌, ◌-◌, ◌≤◌, ◌<◌, max, min}
 use native.Mathlib.Omega.{arith}
@@ -113,7 +112,7 @@ module _ (k : Sort) (forks c to0 : ℕ) (m0 : List ℕ) (r0 : Step) (m : List �
       part-places : n.places ≡ min (place_count nx.part) 257
       part-places = ap (λ (y : Node). y.places) en ∙ top_places m (to - 1) nx.part nx_top
 
-      pub going_joins : Joins m (record { ok = true; at = 0; count = to; height = n.height; places = n.places; forks = 0 }) r
+      pub going_joins : Joins m (record { at = 0; count = to; height = n.height; places = n.places; forks = 0 }) r
       going_joins =
           let q = (g h).now in
           record {
@@ -135,7 +134,7 @@ module _ (k : Sort) (forks c to0 : ℕ) (m0 : List ℕ) (r0 : Step) (m : List �
       going_less = omega (arith, from_is, nx.to_is, pattern-nodes nx.part)
 
   pub going_more : (n : Node) (from : ℕ) (m1 : List ℕ) (r1 : Step) → c < to → n ≡ node_at m (to - 1) → ((p : Tree pattern) → Top p (to - 1) m → from + node_count p ≡ to - 1 + 1)
-      → Joined m m1 k forks (record { ok = true; at = 0; count = to; height = n.height; places = n.places; forks = 0 }) r r1 → Goes k forks c to0 m0 r0 m1 from r1
+      → Joined m m1 k forks (record { at = 0; count = to; height = n.height; places = n.places; forks = 0 }) r r1 → Goes k forks c to0 m0 r0 m1 from r1
   unfolding JoinedAll
   going_more n from m1 r1 l en ef j h =
       let q = (g h).now in
@@ -146,7 +145,7 @@ module _ (k : Sort) (forks c to0 : ℕ) (m0 : List ℕ) (r0 : Step) (m : List �
       let e3 : r1.height ≡ max n.height r.height + 1 = ap (λ (y : Step). y.height) j.is in
       let e4 : r1.places ≡ min (n.places + r.places) 257 = ap (λ (y : Step). y.places) j.is in
       let e5 : length m1 ≡ length m = ap length j.wrote ∙ put_length m r.count _ in
-      let part-is : ◌≡◌ {A = Step} (record { ok = true; at = 0; count = to; height = n.height; places = n.places; forks = 0 }) (part_at p to) = rw (part-high h l n en, part-places h l n en) refl in
+      let part-is : ◌≡◌ {A = Step} (record { at = 0; count = to; height = n.height; places = n.places; forks = 0 }) (part_at p to) = rw (part-high h l n en, part-places h l n en) refl in
       record {
         now = record {
           parts = x.rest;

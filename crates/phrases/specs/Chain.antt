@@ -1,6 +1,6 @@
 -- The parts of a sequence or an alternation that are read and stand in the room, one behind the
 -- other, before nodes join them: what joining them from the last on asks and leaves.
-use Rattle.std.specs.Prelude.{◌≡◌, true, List, [], ◌∷◌, ℕ, ◌+◌, ◌*◌, ◌-◌, ◌≤◌, ◌<◌, min, length}
+use Rattle.std.specs.Prelude.{◌≡◌, List, [], ◌∷◌, ℕ, ◌+◌, ◌*◌, ◌-◌, ◌≤◌, ◌<◌, min, length}
 use Rattle.rules.specs.Language.{pattern, Tree}
 use Rattle.rules.specs.Places.{place_count}
 use Rattle.nodes.specs.declared.Sort.{Sort}
@@ -11,7 +11,7 @@ use Rattle.primaries.specs.declared.Step.{Step}
 
 -- the answer of the reader of a part, as far as joining looks at it: its nodes end before `to`
 abbrev pub part_at : Tree pattern → ℕ → Step
-part_at p to = record { ok = true; at = 0; count = to; height = height p; places = min (place_count p) 257; forks = 0 }
+part_at p to = record { at = 0; count = to; height = height p; places = min (place_count p) 257; forks = 0 }
 
 unfoldable pub many : List (Tree pattern) → ℕ
 many [] = 0

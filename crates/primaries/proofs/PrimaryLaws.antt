@@ -1,47 +1,45 @@
 -- Laws of a primary that is read: each is one way through one function.
 use mathlib.Core.Path.{◌≡◌, refl, sym, ap, ◌∙◌}
-use mathlib.Core.Bool.{Bool, true, false, true≢false, false≢true}
+use mathlib.Core.Bool.{Bool, true, false}
 use mathlib.Core.List.{List}
-use mathlib.Core.Option.{some}
-use Prim.Native.Nat.{ℕ, zero, suc, ◌+◌, ◌-◌, ◌≤◌, ◌<◌, min}
+use mathlib.Core.Logic.{◌⊎◌, inl, inr}
+use Prim.Native.Nat.{ℕ, ◌+◌, ◌-◌, ◌≤◌, ◌<◌, min}
 use native.Mathlib.Omega.{arith}
 use mir.Val.{Fits as Fits-in}
 use mir.Syntax.{w64}
 use lib.Dec.{eqb}
 use lib.ListN.{length, drop}
 use borrow.Author.Tests.{eq-eqb, ne_eqb}
+use Rattle.std.specs.Prelude.{Result, Ok, Err}
 use Rattle.rules.specs.Basics.{is_letter}
-use Rattle.rules.specs.Reader.{left, peek, rest, skip_spaces, simple}
-use Rattle.text_bytes.proofs.ByteLaws.{inside, rest-drop}
+use Rattle.rules.specs.Reader.{peek, rest, skip_spaces, simple}
+use Rattle.text_bytes.specs.declared.Broken.{Broken}
+use Rattle.text_bytes.proofs.ByteLaws.{inside, rest-drop, letter-yes, letter-no}
 use Rattle.nodes.specs.declared.Sort.{Sort}
 use Rattle.nodes.specs.declared.Sort.TheVariants.{Letter, Anchor, Empty, Group}
 use Rattle.nodes.specs.declared.Node.{Node}
-use Rattle.trees.specs.Written.{plain_node, node_count, height, own}
-use Rattle.primaries.specs.Readers.{Unread, SaysHead, HeadOn, SimpleSays, SkipTo, EmptyIs, ShutNeeds, ShutIs}
+use Rattle.trees.specs.Written.{plain_node, node_count, own}
+use Rattle.primaries.specs.Readers.{SaysHead, HeadOn, SimpleSays, SkipTo, LeafIs, EmptyIs, ShutNeeds, ShutIs}
 use Rattle.primaries.specs.declared.Step.{Step}
 use Rattle.primaries.specs.declared.Head.{Head}
 
-clash : {A : Type 0} {b : Bool} → b ≡ true → b ≡ false → A
-clash p q = absurd (true≢false (sym p ∙ q))
+-- a text that is wrong at a position
+abbrev pub broken_at : ℕ → Result Head Broken
+broken_at at = Err (record { at = at })
 
 -- ---- letters and anchors
 
-pub leaf_on : (s : List ℕ) (at c to : ℕ) (k : Sort) (w : ℕ) (n : Node) → w ≤ 1 → at + 1 ≤ to → to ≤ length s → n ≡ plain_node k 0 0 0 w
-    → HeadOn s at c (record { ok = true; at = to; count = c; node = n })
-leaf_on s at c to k w n hw h l e =
+pub leaf_on : (s : List ℕ) (at c : ℕ) (r : Head) (k : Sort) (w : ℕ) → w ≤ 1 → at + 1 ≤ r.at → r.at ≤ length s → r.count ≡ c → r.node ≡ plain_node k 0 0 0 w → HeadOn s at c r
+leaf_on s at c r k w hw h l e n =
     record {
       on = omega arith;
       inside = l;
       some = omega arith;
       few = omega arith;
-      low = (let z : n.height ≡ 0 = ap (λ (x : Node). x.height) e in omega arith);
-      few_places = (let z : n.places ≡ w = ap (λ (x : Node). x.places) e in omega arith);
-      small = rw e (record { form = omega arith; low = omega arith; high = omega arith; left = omega arith; right = omega arith; height = omega arith; places = omega arith });
+      low = (let z : r.node.height ≡ 0 = ap (λ (x : Node). x.height) n in omega arith);
+      few_places = (let z : r.node.places ≡ w = ap (λ (x : Node). x.places) n in omega arith);
+      small = rw n (record { form = omega arith; low = omega arith; high = omega arith; left = omega arith; right = omega arith; height = omega arith; places = omega arith });
     }
-
--- an answer that stops at a position
-stops_at : (s : List ℕ) (at : ℕ) (r : Head) (u : List ℕ) → (r.ok ≡ false) × (r.at ≡ at) → at ≤ length s → u ≡ drop at s → Unread s r.ok r.at u
-stops_at s at r u e i q = record { fails = e.0; rest = q ∙ ap (λ (k : ℕ). drop k s) (sym e.1); inside = omega (arith, e.1) }
 
 module _ (s : List ℕ) (at c b : ℕ) (eb : b ≡ peek (drop at s)) where
   is_eq : (k : ℕ) → b ≡ k → eqb (peek (drop at s)) k ≡ true
@@ -50,112 +48,97 @@ module _ (s : List ℕ) (at c b : ℕ) (eb : b ≡ peek (drop at s)) where
   is_ne : (k : ℕ) → (b ≡ k → ⊥) → eqb (peek (drop at s)) k ≡ false
   is_ne k e = ne_eqb (peek (drop at s)) k (λ x. e (eb ∙ x))
 
-  module _ (to : ℕ) (n : Node) where
-    pub simple-caret : b ≡ 94 → SkipTo s (at + 1) to → n ≡ plain_node (Anchor b) 0 0 0 1 → SimpleSays s at c (record { ok = true; at = to; count = c; node = n })
+  pub anchor-here : (b ≡ 36) ⊎ (b ≡ 94) → at < length s
+  anchor-here (inl e) = inside s at 36 (omega arith) (sym eb ∙ e)
+  anchor-here (inr e) = inside s at 94 (omega arith) (sym eb ∙ e)
+
+  pub letter-here : 65 ≤ b → at < length s
+  letter-here l = inside s at b (omega arith) (sym eb)
+
+  module _ (r : Head) where
+    simple-caret : b ≡ 94 → LeafIs s at c (Anchor b) r → SimpleSays s at c (Ok r)
     unfolding simple SaysHead node_count own
-    simple-caret e k en =
+    simple-caret e g =
         record {
           says = simp (is_eq 94 e) (record {
-            ok = refl;
-            rest = ap skip_spaces (rest-drop s at) ∙ sym k.0;
-            count = omega arith;
-            node = en
-                ∙ ap (λ (x : ℕ). plain_node (Anchor x) 0 0 0 1) e;
+            rest = ap skip_spaces (rest-drop s at) ∙ sym g.skips.0;
+            count = omega (arith, g.count);
+            node = g.node ∙ ap (λ (x : ℕ). plain_node (Anchor x) 0 0 0 1) e;
           });
-          on = λ o. leaf_on s at c to (Anchor b) 1 n (omega arith) k.1 k.2 en;
+          on = leaf_on s at c r (Anchor b) 1 (omega arith) g.skips.1 g.skips.2 g.count g.node;
         }
 
-    pub simple-dollar : b ≡ 36 → SkipTo s (at + 1) to → n ≡ plain_node (Anchor b) 0 0 0 1 → SimpleSays s at c (record { ok = true; at = to; count = c; node = n })
+    simple-dollar : b ≡ 36 → LeafIs s at c (Anchor b) r → SimpleSays s at c (Ok r)
     unfolding simple SaysHead node_count own
-    simple-dollar e k en =
+    simple-dollar e g =
         record {
           says = simp (is_ne 94 (λ x. omega arith), is_eq 36 e) (record {
-            ok = refl;
-            rest = ap skip_spaces (rest-drop s at) ∙ sym k.0;
-            count = omega arith;
-            node = en
-                ∙ ap (λ (x : ℕ). plain_node (Anchor x) 0 0 0 1) e;
+            rest = ap skip_spaces (rest-drop s at) ∙ sym g.skips.0;
+            count = omega (arith, g.count);
+            node = g.node ∙ ap (λ (x : ℕ). plain_node (Anchor x) 0 0 0 1) e;
           });
-          on = λ o. leaf_on s at c to (Anchor b) 1 n (omega arith) k.1 k.2 en;
+          on = leaf_on s at c r (Anchor b) 1 (omega arith) g.skips.1 g.skips.2 g.count g.node;
         }
 
-    pub simple-letter : (t u : Bool) (d : ℕ) → (b ≡ 94 → ⊥) → (b ≡ 36 → ⊥) → t ≡ is_letter b → t ≡ true → d ≡ peek (drop (at + 1) s) → u ≡ is_letter d → u ≡ false
-        → SkipTo s (at + 1) to → n ≡ plain_node (Letter b) 0 0 0 1 → SimpleSays s at c (record { ok = true; at = to; count = c; node = n })
+    pub simple-anchor : (b ≡ 36) ⊎ (b ≡ 94) → LeafIs s at c (Anchor b) r → SimpleSays s at c (Ok r)
+    simple-anchor (inl e) g = simple-dollar e g
+    simple-anchor (inr e) g = simple-caret e g
+
+    pub simple-letter : (u : Bool) (d : ℕ) → 65 ≤ b → b ≤ 90 → d ≡ peek (drop (at + 1) s) → u ≡ is_letter d → u ≡ false → LeafIs s at c (Letter b) r → SimpleSays s at c (Ok r)
     unfolding simple SaysHead node_count own
-    simple-letter t u d e1 e2 et ot ed eu ou k en =
+    simple-letter u d l h ed eu ou g =
         record {
           says = simp (
-            is_ne 94 e1,
-            is_ne 36 e2,
-            (let z : is_letter (peek (drop at s)) ≡ true = ap is_letter (sym eb) ∙ sym et ∙ ot in z),
+            is_ne 94 (λ x. omega arith),
+            is_ne 36 (λ x. omega arith),
+            letter-yes (peek (drop at s)) (omega arith) (omega arith),
             (let z : is_letter (peek (rest (drop at s))) ≡ false = ap (λ (x : List ℕ). is_letter (peek x)) (rest-drop s at) ∙ ap is_letter (sym ed) ∙ sym eu ∙ ou in z),
           )
-              (record { ok = refl; rest = ap skip_spaces (rest-drop s at) ∙ sym k.0; count = omega arith; node = en ∙ ap (λ (x : ℕ). plain_node (Letter x) 0 0 0 1) eb });
-          on = λ o. leaf_on s at c to (Letter b) 1 n (omega arith) k.1 k.2 en;
+              (record { rest = ap skip_spaces (rest-drop s at) ∙ sym g.skips.0; count = omega (arith, g.count); node = g.node ∙ ap (λ (x : ℕ). plain_node (Letter x) 0 0 0 1) eb });
+          on = leaf_on s at c r (Letter b) 1 (omega arith) g.skips.1 g.skips.2 g.count g.node;
         }
 
-  pub simple-other : (r : Head) (t : Bool) → (b ≡ 94 → ⊥) → (b ≡ 36 → ⊥) → t ≡ is_letter b → t ≡ false → at ≤ length s → (r.ok ≡ false) × (r.at ≡ at) → SimpleSays s at c r
+  pub simple-other : (b ≡ 94 → ⊥) → (b ≡ 36 → ⊥) → (65 ≤ b → b ≤ 90 → ⊥) → at ≤ length s → SimpleSays s at c (broken_at at)
   unfolding simple SaysHead
-  simple-other r t e1 e2 et ot i er =
+  simple-other e1 e2 e3 i =
       record {
-        says = simp (is_ne 94 e1, is_ne 36 e2, (let z : is_letter (peek (drop at s)) ≡ false = ap is_letter (sym eb) ∙ sym et ∙ ot in z))
-            (stops_at s at r (drop at s) er i refl);
-        on = λ o. clash o er.0;
+        says = simp (is_ne 94 e1, is_ne 36 e2, letter-no (peek (drop at s)) (λ l h. e3 (omega arith) (omega arith))) (record { rest = refl; inside = i });
+        on = tt;
       }
 
-  pub letter-next : (t : Bool) → t ≡ is_letter b → t ≡ true → at + 1 ≤ length s
-  unfolding is_letter
-  letter-next t et ot = let l = low b (sym et ∙ ot) in let i = inside s at b l (sym eb) in omega arith
-    where
-      low : (b : ℕ) → is_letter b ≡ true → 1 ≤ b
-      low zero o = absurd (false≢true o)
-      low (suc k) o = omega arith
-
-  pub simple-touch : (r : Head) (t u : Bool) (d : ℕ) → (b ≡ 94 → ⊥) → (b ≡ 36 → ⊥) → t ≡ is_letter b → t ≡ true → d ≡ peek (drop (at + 1) s) → u ≡ is_letter d → u ≡ true
-      → (r.ok ≡ false) × (r.at ≡ at + 1) → SimpleSays s at c r
+  pub simple-touch : (u : Bool) (d : ℕ) → 65 ≤ b → b ≤ 90 → d ≡ peek (drop (at + 1) s) → u ≡ is_letter d → u ≡ true → SimpleSays s at c (broken_at (at + 1))
   unfolding simple SaysHead
-  simple-touch r t u d e1 e2 et ot ed eu ou er =
+  simple-touch u d l h ed eu ou =
+      let n = letter-here l in
       record {
         says = simp (
-          is_ne 94 e1,
-          is_ne 36 e2,
-          (let z : is_letter (peek (drop at s)) ≡ true = ap is_letter (sym eb) ∙ sym et ∙ ot in z),
+          is_ne 94 (λ x. omega arith),
+          is_ne 36 (λ x. omega arith),
+          letter-yes (peek (drop at s)) (omega arith) (omega arith),
           (let z : is_letter (peek (rest (drop at s))) ≡ true = ap (λ (x : List ℕ). is_letter (peek x)) (rest-drop s at) ∙ ap is_letter (sym ed) ∙ sym eu ∙ ou in z),
-        ) (stops_at s (at + 1) r (rest (drop at s)) er (letter-next t et ot) (rest-drop s at));
-        on = λ o.
-            clash o er.0;
+        ) (record { rest = rest-drop s at; inside = omega arith });
+        on = tt;
       }
-
--- a position behind a byte is in the text
-pub next-in : (s : List ℕ) (at b k : ℕ) → b ≡ peek (drop at s) → b ≡ k → 1 ≤ k → at + 1 ≤ length s
-next-in s at b k eb e h = let l = inside s at k h (sym eb ∙ e) in omega arith
 
 pub before-end : (s : List ℕ) (at b k : ℕ) → b ≡ peek (drop at s) → b ≡ k → 1 ≤ k → at < length s
 before-end s at b k eb e h = inside s at k h (sym eb ∙ e)
 
 -- ---- parentheses
 
-pub empty-is : (s : List ℕ) (at c to : ℕ) (n : Node) → SkipTo s (at + 1) to → n ≡ plain_node Empty 0 0 0 0 → EmptyIs s at c (record { ok = true; at = to; count = c; node = n })
+pub empty-is : (s : List ℕ) (at c to : ℕ) (n : Node) → SkipTo s (at + 1) to → n ≡ plain_node Empty 0 0 0 0 → EmptyIs s at c (record { at = to; count = c; node = n })
 empty-is s at c to n k e = record { to = to; skips = k; is = rw e refl }
 
 module _ (s : List ℕ) (p : Step) where
-  pub shut-some : ShutNeeds p → p.ok ≡ true → 1 ≤ p.count
-  shut-some h o = h.some o
+  pub shut-low : ShutNeeds p → Fits-in w64 (p.height + 1)
+  shut-low h = record { fits = omega (arith, h.low) }
 
-  pub shut-low : ShutNeeds p → p.ok ≡ true → Fits-in w64 (p.height + 1)
-  shut-low h o = record { fits = omega (arith, h.low o) }
+  pub shut-few : ShutNeeds p → Fits-in w64 (p.forks + p.places)
+  shut-few h = record { fits = omega (arith, h.few_places, h.few_forks) }
 
-  pub shut-few : ShutNeeds p → p.ok ≡ true → Fits-in w64 (p.forks + p.places)
-  shut-few h o = record { fits = omega (arith, h.few_places o, h.few_forks o) }
-
-  pub shut-unread : (r : Head) → p.ok ≡ false → (r.ok ≡ false) × (r.at ≡ p.at) → ShutIs s p r
-  shut-unread r e er = record { unread = λ x. er; open_still = λ o. clash o e; shuts = λ o. clash o e }
-
-  module _ (b : ℕ) (eb : b ≡ peek (drop p.at s)) (o : p.ok ≡ true) where
-    pub shut_open : (r : Head) → (b ≡ 41 → ⊥) → (r.ok ≡ false) × (r.at ≡ p.at) → ShutIs s p r
-    shut_open r nb er = record { unread = λ x. er; open_still = λ x y. er; shuts = λ x y. absurd (nb (eb ∙ y)) }
+  module _ (b : ℕ) (eb : b ≡ peek (drop p.at s)) where
+    pub shut_open : (b ≡ 41 → ⊥) → ShutIs s p (broken_at p.at)
+    shut_open nb = record { open_still = λ x. refl; shuts = λ y. absurd (nb (eb ∙ y)) }
 
     pub shut-whole : (to q : ℕ) (n : Node) → b ≡ 41 → SkipTo s (p.at + 1) to → q ≡ min (p.forks + p.places) 257 → n ≡ plain_node Group (p.count - 1) 0 (p.height + 1) q
-        → ShutIs s p (record { ok = true; at = to; count = p.count; node = n })
-    shut-whole to q n eb2 k eq en =
-        record { unread = λ x. clash o x; open_still = λ x y. absurd (y (sym eb ∙ eb2)); shuts = λ x y. record { to = to; skips = k; is = rw (en, eq) refl } }
+        → ShutIs s p (Ok (record { at = to; count = p.count; node = n }))
+    shut-whole to q n eb2 k eq en = record { open_still = λ y. absurd (y (sym eb ∙ eb2)); shuts = λ y. record { to = to; skips = k; is = rw (en, eq) refl } }

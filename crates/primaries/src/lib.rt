@@ -1,21 +1,19 @@
 // A primary that is read: a letter or an anchor, `()`, or a pattern in parentheses, of which the
 // `)` is read here. What the readers of a pattern's text answer: a Step, and of a primary, whose
-// node is not yet in the room, a Head (specs/Readers).
+// node is not yet in the room, a Head, or the byte at which the text is wrong (specs/Readers).
 #![tactic(auto)]
 
-ghost use Rattle.std.specs.Prelude.{◌≡◌, ◌+◌, ◌≤◌, ◌<◌, false, length};
-ghost use Rattle.primaries.specs.Readers.{SkipTo, EmptyIs, ShutNeeds, ShutIs, SimpleSays};
+ghost use Rattle.std.specs.Prelude.{◌≡◌, ◌+◌, ◌≤◌, ◌<◌, length};
+ghost use Rattle.primaries.specs.Readers.{SkipTo, LeafIs, EmptyIs, ShutNeeds, ShutIs, SimpleSays};
 
 use nodes::{Node, Sort};
-use text_bytes::{is_letter, peek, skip};
+use text_bytes::{Broken, is_letter, peek, skip};
 use trees::{capped, plain_node};
 
-// What a reader answers: whether it read, where it ended or stopped, how many nodes there are then
-// (its own is the last), its height, its places counted up to 257, without the fork of an
-// alternation, and 1 for that fork.
+// What a reader has read: where it ended, how many nodes there are then (its own is the last), its
+// height, its places counted up to 257, without the fork of an alternation, and 1 for that fork.
 #[derive(Clone, Copy)]
 pub struct Step {
-    pub ok: bool,
     pub at: usize,
     pub count: usize,
     pub height: usize,
@@ -23,67 +21,12 @@ pub struct Step {
     pub forks: usize,
 }
 
-// What the reader of a primary answers: its own node is not yet in the room.
+// What the reader of a primary has read: its own node is not yet in the room.
 #[derive(Clone, Copy)]
 pub struct Head {
-    pub ok: bool,
     pub at: usize,
     pub count: usize,
     pub node: Node,
-}
-
-fn no_head(at: usize, count: usize) -> Head
-    ensures { (result.ok ≡ false) × (result.at ≡ at) }
-{
-    let node = plain_node(Sort::Empty, 0, 0, 0, 0);
-    Head {
-        ok: false,
-        at,
-        count,
-        node,
-    }
-}
-
-// A letter that no letter follows, or an anchor.
-pub fn simple(text: &[u8], at: usize, count: usize) -> Head
-    requires { at ≤ length text.now }
-    ensures { SimpleSays text.now at count result }
-{
-    let b = peek(text, at);
-    if b == b'^' {
-        let to = skip(text, at + 1);
-        let node = plain_node(Sort::Anchor(b), 0, 0, 0, 1);
-        return Head {
-            ok: true,
-            at: to,
-            count,
-            node,
-        };
-    }
-    if b == b'$' {
-        let to = skip(text, at + 1);
-        let node = plain_node(Sort::Anchor(b), 0, 0, 0, 1);
-        return Head {
-            ok: true,
-            at: to,
-            count,
-            node,
-        };
-    }
-    if !is_letter(b) {
-        return no_head(at, count);
-    }
-    if is_letter(peek(text, at + 1)) {
-        return no_head(at + 1, count);
-    }
-    let to = skip(text, at + 1);
-    let node = plain_node(Sort::Letter(b), 0, 0, 0, 1);
-    Head {
-        ok: true,
-        at: to,
-        count,
-        node,
-    }
 }
 
 // Behind a token of one byte and the spaces there.
@@ -94,42 +37,62 @@ pub fn after(text: &[u8], at: usize) -> usize
     skip(text, at + 1)
 }
 
+// A letter or an anchor, one byte.
+fn leaf(text: &[u8], at: usize, count: usize, sort: Sort) -> Head
+    requires { at < length text.now }
+    ensures { LeafIs text.now at count sort result }
+{
+    Head {
+        at: after(text, at),
+        count,
+        node: plain_node(sort, 0, 0, 0, 1),
+    }
+}
+
+// A letter that no letter follows, or an anchor.
+pub fn simple(text: &[u8], at: usize, count: usize) -> Result<Head, Broken>
+    requires { at ≤ length text.now }
+    ensures { SimpleSays text.now at count result }
+{
+    let b = peek(text, at);
+    match b {
+        b'^' | b'$' => Ok(leaf(text, at, count, Sort::Anchor(b))),
+        b'A'..=b'Z' => {
+            if is_letter(peek(text, at + 1)) {
+                return Err(Broken { at: at + 1 });
+            }
+            Ok(leaf(text, at, count, Sort::Letter(b)))
+        }
+        _ => Err(Broken { at }),
+    }
+}
+
 // `()`, at its second byte.
 pub fn empty_head(text: &[u8], at: usize, count: usize) -> Head
     requires { at < length text.now }
     ensures { EmptyIs text.now at count result }
 {
-    let to = after(text, at);
-    let node = plain_node(Sort::Empty, 0, 0, 0, 0);
     Head {
-        ok: true,
-        at: to,
+        at: after(text, at),
         count,
-        node,
+        node: plain_node(Sort::Empty, 0, 0, 0, 0),
     }
 }
 
 // Behind a pattern in parentheses: `)`.
-pub fn shut_group(text: &[u8], p: Step) -> Head
+pub fn shut_group(text: &[u8], p: Step) -> Result<Head, Broken>
     requires { ShutNeeds p }
     ensures { ShutIs text.now p result }
 {
-    let at = p.at;
-    let count = p.count;
-    let ok = p.ok;
-    if !ok {
-        return no_head(at, count);
+    if peek(text, p.at) != b')' {
+        return Err(Broken { at: p.at });
     }
-    if peek(text, at) != b')' {
-        return no_head(at, count);
-    }
-    let to = after(text, at);
+    let to = after(text, p.at);
     let places = capped(p.forks + p.places);
-    let node = plain_node(Sort::Group, count - 1, 0, p.height + 1, places);
-    Head {
-        ok: true,
+    let node = plain_node(Sort::Group, p.count - 1, 0, p.height + 1, places);
+    Ok(Head {
         at: to,
-        count,
+        count: p.count,
         node,
-    }
+    })
 }

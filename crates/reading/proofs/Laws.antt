@@ -1,6 +1,6 @@
 -- One law for each way through the functions of this crate: measures whose letters are known, and
 -- the answer 1 to 9 from its parts.
-use mathlib.Core.Path.{◌≡◌, refl, ap, ap₂, sym, ◌∙◌}
+use mathlib.Core.Path.{◌≡◌, refl, ap, ap₂, sym, subst, ◌∙◌}
 use mathlib.Core.Bool.{Bool, true, false, not, ◌&&◌, ◌||◌}
 use mathlib.Core.List.{List, [], ◌∷◌, ◌++◌}
 use Prim.Native.Nat.{ℕ, zero, suc, ◌+◌, ◌-◌, ◌/◌, ◌≤◌, ◌<◌}
@@ -28,7 +28,11 @@ use Rattle.query.specs.Order.{first_answer}
 use Rattle.sizes.specs.Sizes.{bad_count}
 use Rattle.rules.specs.Reader.{tree_of}
 use Rattle.decode.specs.declared.Parts.{Parts}
-use Rattle.judge.specs.declared.Verdict.{Verdict}
+use Rattle.std.specs.Prelude.{Result, Ok, Err}
+use Rattle.refusals.specs.Refusals.{answer_of, offset_of, answer_in, offset_in}
+use Rattle.refusals.specs.declared.Refusal.{Refusal}
+use Rattle.refusals.specs.declared.Refusal.TheVariants.{Cut, Misplaced, Unfit, TooDeep, Broken, Nested, TooMany, Doubled, Foreign, BadRows, ShortNotes, ShortTrail, Unfinished, LooksAhead, NoNumber, OutOfOrder}
+use Rattle.judge.specs.declared.Judged.{Judged}
 use Rattle.judge.specs.Judged.{text_tests, text_answer, Judging}
 use Rattle.reading.specs.declared.Query.{Query}
 use Rattle.reading.specs.declared.Size.{Size}
@@ -227,27 +231,52 @@ target_byte s room measures p j = by (eqb p.target 0) refl j.lettered
     by true d e = let z = eqb-true p.target 0 d in omega arith
     by false d e = let z = leb-true p.target 90 (and_right (leb 65 p.target) (leb p.target 90) e) in omega arith
 
-module _ (s room room' measures : List ℕ) (p : Parts) (j : JudgeRoom s room measures p) (e : ℕ) (v : Verdict) (i : e ≡ p.start + p.len)
-    (g : Judging (take (e - p.start) (drop p.start s)) room room' v) where
+-- a refusal is not 0
+refused_some : (e : Refusal) → answer_of e ≡ 0 → ⊥
+refused_some Cut q = omega arith
+refused_some Misplaced q = omega arith
+refused_some Unfit q = omega arith
+refused_some TooDeep q = omega arith
+refused_some (Broken k) q = omega arith
+refused_some Nested q = omega arith
+refused_some TooMany q = omega arith
+refused_some Doubled q = omega arith
+refused_some Foreign q = omega arith
+refused_some BadRows q = omega arith
+refused_some ShortNotes q = omega arith
+refused_some ShortTrail q = omega arith
+refused_some (Unfinished k) q = omega arith
+refused_some LooksAhead q = omega arith
+refused_some NoNumber q = omega arith
+refused_some OutOfOrder q = omega arith
+
+module _ (s room room' measures : List ℕ) (p : Parts) (j : JudgeRoom s room measures p) (e : ℕ) (w : Result Judged Refusal) (i : e ≡ p.start + p.len)
+    (g : Judging (take (e - p.start) (drop p.start s)) room room' w) where
   the_text : take (e - p.start) (drop p.start s) ≡ text_of s
   the_text = let q : e - p.start ≡ p.len = omega arith in ap (λ (k : ℕ). take k (drop p.start s)) q ∙ j.text
 
-  the_answer : v.answer ≡ text_answer (text_of s)
+  the_answer : answer_in w ≡ text_answer (text_of s)
   the_answer = g.answer ∙ ap text_answer the_text
 
-  the_offset : v.offset ≡ offset_at (text_of s) v.answer
-  the_offset = g.offset ∙ ap (λ (t : List ℕ). offset_at t v.answer) the_text
+  the_offset : offset_in w ≡ offset_at (text_of s) (answer_in w)
+  the_offset = g.offset ∙ ap (λ (t : List ℕ). offset_at t (answer_in w)) the_text
 
   refused-is : (a k : ℕ) (r : Query) → (a ≡ 0 → ⊥) → a ≡ query_answer s → k ≡ offset_at (text_of s) a → r ≡ refused_query a k → JudgedParts s room' measures p r
   refused-is a k r d q o b = rw b (record { answer = q; offset = o; good = λ z. absurd (d z) })
 
   -- answers 4 to 7 and 14
-  pub text-answers : (r : Query) → (v.answer ≡ 0 → ⊥) → r ≡ refused_query v.answer v.offset → JudgedParts s room' measures p r
-  text-answers r d b = refused-is v.answer v.offset r d (the_answer ∙ by-text s j.clean (λ z. d (the_answer ∙ z))) the_offset b
+  pub text-answers : (f : Refusal) (r : Query) → w ≡ Err f → r ≡ refused_query (answer_of f) (offset_of f) → JudgedParts s room' measures p r
+  text-answers f r q b =
+      let a : answer_of f ≡ text_answer (text_of s) = sym (ap answer_in q) ∙ the_answer in
+      let k : offset_of f ≡ offset_at (text_of s) (answer_of f) = sym (ap offset_in q) ∙ the_offset ∙ ap (λ (x : Result Judged Refusal). offset_at (text_of s) (answer_in x)) q in
+      refused-is (answer_of f) (offset_of f) r (refused_some f) (a ∙ by-text s j.clean (λ z. refused_some f (a ∙ z))) k b
 
-  module _ (z : v.answer ≡ 0) where
+  module _ (v : Judged) (z : w ≡ Ok v) where
+    no-text_answer : 0 ≡ text_answer (text_of s)
+    no-text_answer = sym (ap answer_in z) ∙ the_answer
+
     parts-answer : query_answer s ≡ pick (doubled s) 8 (pick (foreign s) 9 0)
-    parts-answer = by_parts s j.clean (sym the_answer ∙ z)
+    parts-answer = by_parts s j.clean (sym no-text_answer)
 
     -- answer 8
     pub defines-answer : (r : Query) → p.twice ≡ true → r ≡ refused_query 8 0 → JudgedParts s room' measures p r
@@ -255,7 +284,7 @@ module _ (s room room' measures : List ℕ) (p : Parts) (j : JudgeRoom s room me
     defines-answer r d b = refused-is 8 0 r (λ x. omega arith) (sym (parts-answer ∙ ap (λ (u : Bool). pick u 8 (pick (foreign s) 9 0)) (sym j.doubled ∙ d))) refl b
 
     tree_is : (t : Tree pattern) × (tree_in s ≡ some t)
-    tree_is = has_tree s (sym the_answer ∙ z)
+    tree_is = has_tree s (sym no-text_answer)
 
     foreign-by : foreign s ≡ foreign_in (take (e - p.start) (drop p.start s)) measures p.measures p.target
     foreign-by =
@@ -271,6 +300,9 @@ module _ (s room room' measures : List ℕ) (p : Parts) (j : JudgeRoom s room me
     unfolding offset_at
     letters-answer r u d f y b = refused-is 9 0 r (λ x. omega arith) (sym (both u d f ∙ ap (λ (x : Bool). pick x 9 0) y)) refl b
 
+    good : Judging (take (e - p.start) (drop p.start s)) room room' (Ok v)
+    good = subst (Judging (take (e - p.start) (drop p.start s)) room room') z g
+
     -- none of them
     pub no_answer : (u : Bool) → p.twice ≡ false → u ≡ foreign_in (take (e - p.start) (drop p.start s)) measures p.measures p.target → u ≡ false
         → JudgedParts s room' measures p (record { answer = 0; offset = 0; places = v.places; factor = v.factor; top = v.top; columns = p.columns; skip = p.skip; target = p.target; measures = p.measures; letters = p.letters })
@@ -283,9 +315,9 @@ module _ (s room room' measures : List ℕ) (p : Parts) (j : JudgeRoom s room me
               λ _. record {
                 tree = tree_is.0;
                 is = tree_is.1;
-                places = g.places ∙ ap (λ (a : ℕ). pick (eqb a 0) (P (tree_of (take (e - p.start) (drop p.start s)))) 0) z ∙ ap (λ (t : List ℕ). P (tree_of t)) the_text;
-                factor = g.factor ∙ ap (λ (a : ℕ). pick (eqb a 0) (F (tree_of (take (e - p.start) (drop p.start s)))) 0) z ∙ ap (λ (t : List ℕ). F (tree_of t)) the_text;
-                top = g.top z tree_is.0 (ap tree_of the_text ∙ tree_is.1);
+                places = good.places ∙ ap (λ (t : List ℕ). P (tree_of t)) the_text;
+                factor = good.factor ∙ ap (λ (t : List ℕ). F (tree_of t)) the_text;
+                top = good.top tree_is.0 (ap tree_of the_text ∙ tree_is.1);
                 columns = refl;
                 skip = refl;
                 target = refl;

@@ -1,7 +1,7 @@
 -- Laws of bytes, spaces, letters, digits and numbers of a text: each is one way through one
 -- function.
 use mathlib.Core.Path.{◌≡◌, refl, sym, ap, ◌∙◌}
-use mathlib.Core.Bool.{Bool, true, false, true≢false, false≢true}
+use mathlib.Core.Bool.{Bool, true, false}
 use mathlib.Core.List.{List, [], ◌∷◌}
 use Prim.Native.Nat.{ℕ, suc, ◌+◌, ◌*◌, ◌-◌, ◌≤◌, ◌<◌}
 use native.Mathlib.Omega.{arith}
@@ -12,9 +12,11 @@ use lib.Seq.{drop-cons}
 use borrow.Author.Tests.{le-leb, lt-leb, eq-eqb, ne_eqb}
 use Rattle.rules.specs.Basics.{pick, in_range, is_letter}
 use Rattle.rules.specs.Reader.{Reading, got, bad, peek, rest, skip_spaces, is_digit, number, bound_reached, reaching}
-use Rattle.laws.proofs.GrammarSound.{in_range_lem, range_in, number-begun}
-use Rattle.text_bytes.specs.Numerals.{SaysNumber, no_number, Numeral, BoundReached}
-use Rattle.text_bytes.specs.declared.Value.{Value}
+use Rattle.laws.proofs.GrammarSound.{in_range_lem, range_in, letter-in, in_letters, number-begun}
+use Rattle.std.specs.Prelude.{Result, Ok, Err}
+use Rattle.text_bytes.specs.Numerals.{SaysNumber, Stops, Numeral, BoundReached}
+use Rattle.text_bytes.specs.declared.Bound.{Bound}
+use Rattle.text_bytes.specs.declared.Broken.{Broken}
 
 -- ---- bytes
 
@@ -71,21 +73,15 @@ skip_less s to b eb e = let l = inside s to 32 (omega arith) (sym eb ∙ e) in o
 
 -- ---- letters, digits
 
-pub letter-low : (b : ℕ) → b < 65 → false ≡ is_letter b
-unfolding is_letter
-letter-low b h = simp (lt-leb 65 b h)
+pub letter-yes : (b : ℕ) → 65 ≤ b → b ≤ 90 → is_letter b ≡ true
+letter-yes b l h = letter-in b l h
 
-pub letter-high : (b : ℕ) → 65 ≤ b → leb b 90 ≡ is_letter b
-unfolding is_letter
-letter-high b h = simp (le-leb 65 b h)
-
-pub digit_low : (b : ℕ) → b < 48 → false ≡ is_digit b
-unfolding is_digit
-digit_low b h = simp (lt-leb 48 b h)
-
-pub digit-high : (b : ℕ) → 48 ≤ b → leb b 57 ≡ is_digit b
-unfolding is_digit
-digit-high b h = simp (le-leb 48 b h)
+pub letter-no : (b : ℕ) → (65 ≤ b → b ≤ 90 → ⊥) → is_letter b ≡ false
+letter-no b n = go (is_letter b) refl
+  where
+    go : (t : Bool) → is_letter b ≡ t → t ≡ false
+    go false e = refl
+    go true e = let k = in_letters b e in absurd (n k.0 k.1)
 
 pub digits_from : (b v : ℕ) (d : Bool) → d ≡ is_digit b → d ≡ true → v ≡ b → 48 ≤ v
 unfolding is_digit
@@ -97,37 +93,43 @@ digits-to b d ed e = (in_range_lem 48 57 b (sym ed ∙ e)).1
 
 -- ---- numbers
 
+-- a text that is wrong at a position
+abbrev pub broken_at : ℕ → Result Bound Broken
+broken_at at = Err (record { at = at })
+
 module _ (s : List ℕ) (at b : ℕ) (d : Bool) (eb : b ≡ peek (drop at s)) (ed : d ≡ is_digit b) where
   first : is_digit (peek (drop at s)) ≡ d
   first = ap is_digit (sym eb) ∙ sym ed
 
-  pub number-none : (r : Value) → at ≤ length s → d ≡ false → r ≡ no_number at → Numeral s at r (number (drop at s))
+  pub number-none : at ≤ length s → d ≡ false → Numeral s at (broken_at at) (number (drop at s))
   unfolding number SaysNumber
-  number-none r h e er = rw er (record { says = simp (first ∙ e) (refl, refl); inside = h; small = omega arith })
+  number-none h e = record { says = simp (first ∙ e) (record { rest = refl; inside = h }); small = tt }
 
   module _ (c : ℕ) (e : Bool) (ec : c ≡ peek (drop (at + 1) s)) (ee : e ≡ is_digit c) where
     second : is_digit (peek (rest (drop at s))) ≡ e
     second = ap (λ (u : List ℕ). is_digit (peek u)) (rest-drop s at) ∙ ap is_digit (sym ec) ∙ sym ee
 
-    pub number-one : (v : ℕ) → d ≡ true → e ≡ false → v ≡ b → Numeral s at (record { ok = true; value = v - 48; at = at + 1 }) (number (drop at s))
+    pub number-one : (v : ℕ) → d ≡ true → e ≡ false → v ≡ b → Numeral s at (Ok (record { value = v - 48; at = at + 1 })) (number (drop at s))
     unfolding number SaysNumber
     number-one v i j ev =
         let l = digits_from b b d ed i refl in let h = digits-to b d ed i in
         let n = inside s at b (omega arith) (sym eb) in
         record {
           says = simp (first ∙ i, second ∙ j)
-              (record { ok = refl; value = ap (λ (x : ℕ). x - 48) (ev ∙ eb); small = omega arith; rest = rest-drop s at; on = omega arith; inside = omega arith });
-          inside = omega arith;
+              (record { value = ap (λ (x : ℕ). x - 48) (ev ∙ eb); small = omega arith; rest = rest-drop s at; on = omega arith; inside = omega arith });
           small = omega arith;
         }
 
-    pub number-zero : (r : Value) → d ≡ true → e ≡ true → b ≡ 48 → r ≡ no_number (at + 1) → Numeral s at r (number (drop at s))
+    pub number-zero : d ≡ true → e ≡ true → b ≡ 48 → Numeral s at (broken_at (at + 1)) (number (drop at s))
     unfolding number SaysNumber
-    number-zero r i j z er =
+    number-zero i j z =
         let n = inside s at 48 (omega arith) (sym eb ∙ z) in
-        rw er (record { says = simp (first ∙ i, second ∙ j, eq-eqb (peek (drop at s)) 48 (sym eb ∙ z)) (refl, rest-drop s at); inside = omega arith; small = omega arith })
+        record {
+          says = simp (first ∙ i, second ∙ j, eq-eqb (peek (drop at s)) 48 (sym eb ∙ z)) (record { rest = rest-drop s at; inside = omega arith });
+          small = tt;
+        }
 
-    pub number-two : (v w : ℕ) → d ≡ true → e ≡ true → (b ≡ 48 → ⊥) → v ≡ b → w ≡ c → Numeral s at (record { ok = true; value = 10 * (v - 48) + (w - 48); at = at + 2 }) (number (drop at s))
+    pub number-two : (v w : ℕ) → d ≡ true → e ≡ true → (b ≡ 48 → ⊥) → v ≡ b → w ≡ c → Numeral s at (Ok (record { value = 10 * (v - 48) + (w - 48); at = at + 2 })) (number (drop at s))
     unfolding number SaysNumber
     number-two v w i j z ev ew =
         let l = digits_from b b d ed i refl in let h = digits-to b d ed i in
@@ -138,98 +140,100 @@ module _ (s : List ℕ) (at b : ℕ) (d : Bool) (eb : b ≡ peek (drop at s)) (e
         let p : peek (rest (drop at s)) ≡ c = ap peek (rest-drop s at) ∙ sym ec in
         record {
           says = simp (first ∙ i, second ∙ j, ne_eqb (peek (drop at s)) 48 (λ x. z (eb ∙ x)))
-              (record { ok = refl; value = val v w ev ew p; small = omega arith; rest = q; on = omega arith; inside = omega arith });
-          inside = omega arith;
+              (record { value = val v w ev ew p; small = omega arith; rest = q; on = omega arith; inside = omega arith });
           small = omega arith;
         }
       where
         val : (v w : ℕ) → v ≡ b → w ≡ c → peek (rest (drop at s)) ≡ c → 10 * (v - 48) + (w - 48) ≡ 10 * (peek (drop at s) - 48) + (peek (rest (drop at s)) - 48)
         val v w ev ew p = omega (arith, eb)
 
-pub says-bad : (s : List ℕ) (at : ℕ) (m : Value) (x : Reading ℕ) → SaysNumber s at m x → m.ok ≡ false → x ≡ bad (drop m.at s)
-unfolding SaysNumber
-says-bad s at m (bad u) h e = ap bad h.1
-says-bad s at m (got v u) h e = absurd (true≢false (sym h.ok ∙ e))
+-- ---- what an answer says
 
-pub record Got (s : List ℕ) (at : ℕ) (m : Value) (x : Reading ℕ) : Type 0 where
+pub record Bad (s : List ℕ) (e : Broken) (x : Reading ℕ) : Type 0 where
+  pub is : x ≡ bad (drop e.at s)
+  pub inside : e.at ≤ length s
+
+pub says-bad : (s : List ℕ) (at : ℕ) (e : Broken) (x : Reading ℕ) → SaysNumber s at (Err e) x → Bad s e x
+unfolding SaysNumber
+says-bad s at e (bad u) h = record { is = ap bad h.rest; inside = h.inside }
+says-bad s at e (got v u) h = absurd h
+
+pub record Got (s : List ℕ) (at : ℕ) (m : Bound) (x : Reading ℕ) : Type 0 where
   pub is : x ≡ got m.value (drop m.at s)
   pub small : m.value ≤ 99
   pub on : at ≤ m.at
   pub inside : m.at ≤ length s
 
-pub says-got : (s : List ℕ) (at : ℕ) (m : Value) (x : Reading ℕ) → SaysNumber s at m x → m.ok ≡ true → Got s at m x
+pub says-got : (s : List ℕ) (at : ℕ) (m : Bound) (x : Reading ℕ) → SaysNumber s at (Ok m) x → Got s at m x
 unfolding SaysNumber
-says-got s at m (bad u) h e = absurd (true≢false (sym e ∙ h.0))
-says-got s at m (got v u) h e = record { is = rw (h.rest, h.value) refl; small = omega (arith, h.small, h.value); on = h.on; inside = h.inside }
+says-got s at m (bad u) h = absurd h
+says-got s at m (got v u) h = record { is = rw (h.rest, h.value) refl; small = omega (arith, h.small, h.value); on = h.on; inside = h.inside }
+
+pub bound_in : (s : List ℕ) (at : ℕ) (m : Bound) (x : Reading ℕ) → Numeral s at (Ok m) x → m.at ≤ length s
+bound_in s at m x h = (says-got s at m x h.says).inside
 
 -- ---- upper bounds
 
 module _ (s : List ℕ) (at low b : ℕ) (eb : b ≡ peek (drop at s)) where
-  wrong-here : (r : Value) → at ≤ length s → reaching low (drop at s) ≡ bad (drop at s) → r ≡ no_number at → BoundReached s at low r
+  wrong-here : at ≤ length s → reaching low (drop at s) ≡ bad (drop at s) → BoundReached s at low (broken_at at)
   unfolding SaysNumber
-  wrong-here r h e er =
-      rw er (record { numeral = record { says = rw e (refl, refl); inside = h; small = omega arith }; least = λ o. absurd (false≢true o) })
+  wrong-here h e = record { numeral = record { says = rw e (record { rest = refl; inside = h }); small = tt }; least = tt }
 
-  pub reach-below : (r : Value) → at ≤ length s → b < 49 → r ≡ no_number at → BoundReached s at low r
+  pub reach-below : at ≤ length s → b < 49 → BoundReached s at low (broken_at at)
   unfolding reaching in_range
-  reach-below r h l = wrong-here r h (simp (lt-leb 49 (peek (drop at s)) (omega arith)))
+  reach-below h l = wrong-here h (simp (lt-leb 49 (peek (drop at s)) (omega arith)))
 
-  module _ (l : 49 ≤ b) where
-    pub reach-above : (r : Value) → at ≤ length s → 57 < b → r ≡ no_number at → BoundReached s at low r
-    unfolding reaching in_range
-    reach-above r h g = wrong-here r h (simp (le-leb 49 (peek (drop at s)) (omega arith), lt-leb (peek (drop at s)) 57 (omega arith)))
+  pub reach-above : at ≤ length s → 57 < b → BoundReached s at low (broken_at at)
+  unfolding reaching in_range
+  reach-above h g = wrong-here h (simp (le-leb 49 (peek (drop at s)) (omega arith), lt-leb (peek (drop at s)) 57 (omega arith)))
 
-    module _ (g : b ≤ 57) where
-      digit : in_range 49 57 (peek (drop at s)) ≡ true
-      digit = range_in 49 57 (peek (drop at s)) (omega arith) (omega arith)
+  module _ (l : 49 ≤ b) (g : b ≤ 57) where
+    digit : in_range 49 57 (peek (drop at s)) ≡ true
+    digit = range_in 49 57 (peek (drop at s)) (omega arith) (omega arith)
 
-      pub reach-short : (r : Value) (v : ℕ) → at ≤ length s → v ≡ b → 10 * (v - 48) + 9 < low → r ≡ no_number at → BoundReached s at low r
+    pub reach-short : (v : ℕ) → at ≤ length s → v ≡ b → 10 * (v - 48) + 9 < low → BoundReached s at low (broken_at at)
+    unfolding reaching
+    reach-short v h e k = wrong-here h (simp (digit, lt-leb low (10 * (peek (drop at s) - 48) + 9) (omega arith)))
+
+    module _ (v : ℕ) (ev : v ≡ b) (k : low ≤ 10 * (v - 48) + 9) where
+      reach-number : reaching low (drop at s) ≡ bound_reached low (rest (drop at s)) (number (drop at s))
       unfolding reaching
-      reach-short r v h e k = wrong-here r h (simp (digit, lt-leb low (10 * (peek (drop at s) - 48) + 9) (omega arith)))
+      reach-number = rw (digit, le-leb low (10 * (peek (drop at s) - 48) + 9) (omega arith)) refl
 
-      module _ (v : ℕ) (m : Value) (ev : v ≡ b) (k : low ≤ 10 * (v - 48) + 9) (h : Numeral s at m (number (drop at s))) where
-        reach-number : reaching low (drop at s) ≡ bound_reached low (rest (drop at s)) (number (drop at s))
-        unfolding reaching
-        reach-number = rw (digit, le-leb low (10 * (peek (drop at s) - 48) + 9) (omega arith)) refl
+      no-clash : (t : Bool) (x y : ℕ) (p q u : List ℕ) → pick t (got x p) (got y q) ≡ bad u → ⊥
+      no-clash true x y p q u e = let z : ◌≡◌ {A = ℕ} 0 1 = cc in omega arith
+      no-clash false x y p q u e = let z : ◌≡◌ {A = ℕ} 0 1 = cc in omega arith
 
-        no-clash : (t : Bool) (x y : ℕ) (p q u : List ℕ) → pick t (got x p) (got y q) ≡ bad u → ⊥
-        no-clash true x y p q u e = let z : ◌≡◌ {A = ℕ} 0 1 = cc in omega arith
-        no-clash false x y p q u e = let z : ◌≡◌ {A = ℕ} 0 1 = cc in omega arith
+      -- a number begins with the digit
+      pub reach-never : (e : Broken) → Numeral s at (Err e) (number (drop at s)) → ⊥
+      reach-never e h =
+          no-clash (is_digit (peek (rest (drop at s)))) (10 * (peek (drop at s) - 48) + (peek (rest (drop at s)) - 48)) (peek (drop at s) - 48) (rest (rest (drop at s)))
+          (rest (drop at s)) (drop e.at s) (sym (number-begun (drop at s) (omega arith) (omega arith)) ∙ (says-bad s at e _ h.says).is)
 
-        got-one : (x : Reading ℕ) → number (drop at s) ≡ x → SaysNumber s at m x → m.ok ≡ true
-        unfolding SaysNumber
-        got-one (got w u) e n = n.ok
-        got-one (bad u) e n =
-            absurd (no-clash (is_digit (peek (rest (drop at s)))) (10 * (peek (drop at s) - 48) + (peek (rest (drop at s)) - 48)) (peek (drop at s) - 48) (rest (rest (drop at s)))
-            (rest (drop at s)) u (sym (number-begun (drop at s) (omega arith) (omega arith)) ∙ e))
-
+      module _ (m : Bound) (h : Numeral s at (Ok m) (number (drop at s))) where
         there : Got s at m (number (drop at s))
-        there = says-got s at m _ h.says (got-one (number (drop at s)) refl h.says)
+        there = says-got s at m _ h.says
 
-        pub reach-less : (r : Value) → m.value < low → r ≡ no_number (at + 1) → BoundReached s at low r
+        pub reach-less : m.value < low → BoundReached s at low (broken_at (at + 1))
         unfolding SaysNumber bound_reached
-        reach-less r f er =
+        reach-less f =
             let i = inside s at b (omega arith) (sym eb) in
             let e : reaching low (drop at s) ≡ bad (drop (at + 1) s) =
             reach-number ∙ ap (bound_reached low (rest (drop at s))) there.is ∙ rw (lt-leb low m.value f) (ap bad (rest-drop s at)) in
-            rw er (record { numeral = record { says = rw e (refl, refl); inside = omega arith; small = omega arith }; least = λ o. absurd (false≢true o) })
+            record { numeral = record { says = rw e (record { rest = refl; inside = omega arith }); small = tt }; least = tt }
 
-        pub reach-found : low ≤ m.value → BoundReached s at low m
+        pub reach-found : low ≤ m.value → BoundReached s at low (Ok m)
         unfolding SaysNumber bound_reached
         reach-found f =
             let e : reaching low (drop at s) ≡ got m.value (drop m.at s) =
             reach-number ∙ ap (bound_reached low (rest (drop at s))) there.is ∙ rw (le-leb low m.value f) refl in
             record {
               numeral = record {
-                says = rw e (record { ok = got-one (number (drop at s)) refl h.says; value = refl; small = there.small; rest = refl; on = there.on; inside = there.inside });
-                inside = h.inside;
-                small = h.small;
+                says = rw e (record { value = refl; small = there.small; rest = refl; on = there.on; inside = there.inside });
+                small = there.small;
               };
-              least = λ o. f;
+              least = f;
             }
-
-pub reached_least : (s : List ℕ) (at low : ℕ) (m : Value) → BoundReached s at low m → m.ok ≡ true → low ≤ m.value
-reached_least s at low m h o = h.least o
 
 pub next-in : (s : List ℕ) (at b k : ℕ) → b ≡ peek (drop at s) → b ≡ k → 1 ≤ k → at + 1 ≤ length s
 next-in s at b k eb e h = let l = inside s at k h (sym eb ∙ e) in omega arith

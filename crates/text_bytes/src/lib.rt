@@ -1,19 +1,24 @@
-// The bytes of a pattern's text: a byte, spaces, letters, digits, and numbers of one or two digits,
-// as they stand in the bounds of a quantifier. A number that is wrong tells at which byte.
+// The bytes of a pattern's text: a byte, spaces, letters, digits, and the bounds of a quantifier,
+// numbers of one or two digits. A text that is wrong tells at which byte.
 #![tactic(auto)]
 
 ghost use Rattle.std.specs.Prelude.{◌≡◌, ◌≤◌, length, drop};
 ghost use Rattle.rules.specs.Basics.{is_letter};
 ghost use Rattle.rules.specs.Reader.{peek as peeked, skip_spaces as skipped, is_digit, number as numbered};
-ghost use Rattle.text_bytes.specs.Numerals.{Numeral, BoundReached, no_number};
+ghost use Rattle.text_bytes.specs.Numerals.{Numeral, BoundReached};
 
 use numbers::wide8;
 
-// A number and where it ends, or where there is none.
+// A bound of a quantifier, and where its digits end.
 #[derive(Clone, Copy)]
-pub struct Value {
-    pub ok: bool,
+pub struct Bound {
     pub value: usize,
+    pub at: usize,
+}
+
+// The byte at which a text is no pattern: each reader of a part of it fails with this.
+#[derive(Clone, Copy)]
+pub struct Broken {
     pub at: usize,
 }
 
@@ -31,85 +36,66 @@ pub fn skip(text: &[u8], at: usize) -> usize
 {
     let mut to = at;
     while peek(text, to) == b' ' {
-        to = to + 1;
+        to += 1;
     }
     to
 }
 
+#[tactic(auto, unfolding(rules::specs::Basics::is_letter, rules::specs::Basics::in_range))]
 pub fn is_letter(b: u8) -> bool
     ensures { result ≡ is_letter b }
 {
-    if b < b'A' {
-        return false;
-    }
-    b <= b'Z'
+    b.is_ascii_uppercase()
 }
 
+#[tactic(auto, unfolding(rules::specs::Reader::is_digit, rules::specs::Basics::in_range))]
 pub fn is_digit(b: u8) -> bool
     ensures { result ≡ is_digit b }
 {
-    if b < b'0' {
-        return false;
-    }
-    b <= b'9'
-}
-
-fn no_number(at: usize) -> Value
-    ensures { result ≡ no_number at }
-{
-    Value {
-        ok: false,
-        value: 0,
-        at,
-    }
+    b.is_ascii_digit()
 }
 
 // A number of one digit, or of two of which the first is not 0.
-pub fn number(text: &[u8], at: usize) -> Value
+pub fn number(text: &[u8], at: usize) -> Result<Bound, Broken>
     requires { at ≤ length text.now }
     ensures { Numeral text.now at result (numbered (drop at text.now)) }
 {
     let b = peek(text, at);
     if !is_digit(b) {
-        return no_number(at);
+        return Err(Broken { at });
     }
     let c = peek(text, at + 1);
     if !is_digit(c) {
-        return Value {
-            ok: true,
+        return Ok(Bound {
             value: wide8(b) - 48,
             at: at + 1,
-        };
+        });
     }
     if b == b'0' {
-        return no_number(at + 1);
+        return Err(Broken { at: at + 1 });
     }
-    Value {
-        ok: true,
+    Ok(Bound {
         value: 10 * (wide8(b) - 48) + (wide8(c) - 48),
         at: at + 2,
-    }
+    })
 }
 
 // An upper bound: a number of 1 at least and `low` at least. Where its first digit begins none, or
 // its second makes none, there it is wrong.
-pub fn reaching(text: &[u8], at: usize, low: usize) -> Value
+pub fn reaching(text: &[u8], at: usize, low: usize) -> Result<Bound, Broken>
     requires { at ≤ length text.now }
     ensures { BoundReached text.now at low result }
 {
     let b = peek(text, at);
-    if b < b'1' {
-        return no_number(at);
-    }
-    if b'9' < b {
-        return no_number(at);
+    if b < b'1' || b'9' < b {
+        return Err(Broken { at });
     }
     if 10 * (wide8(b) - 48) + 9 < low {
-        return no_number(at);
+        return Err(Broken { at });
     }
-    let m = number(text, at);
+    let m = number(text, at)?;
     if m.value < low {
-        return no_number(at + 1);
+        return Err(Broken { at: at + 1 });
     }
-    m
+    Ok(m)
 }

@@ -1,42 +1,61 @@
 -- `judge::judge` meets its contract. Laws: Laws.
-use Rattle.judge.proofs.Laws.{judge_deep, judge_wrong, judge_incomplete, some-node, top_at, sum_fits, more-fits, judge_loop, judge_many, judge_good}
-use borrow.Author.Tests.{not-true, not-false}
+use Rattle.judge.proofs.Laws.{judge_deep, judge_stopped, some-node, top_at, sum_fits, more-fits, judge_loop, judge_many, judge_good}
+use Rattle.std.proofs.lemmas.Result.{err_from_is_err_and}
 use borrow.Author.Rules.{rules}
-use Rattle.judge.proofs.judge.Reads as reads
-use Rattle.judge.proofs.judge.Lts as lts
-use Rattle.judge.proofs.refused.Reads as refused-reads
-use Rattle.loops.proofs.factor_of.Reads as factor-of-reads
-use Rattle.loops.proofs.nesting.Reads as nesting-reads
-use Rattle.pattern.proofs.read_text.Reads as read-text-reads
-use Rattle.scan.proofs.too_deep.Reads as too-deep-reads
+use native.Mathlib.Omega.{arith}
+use mathlib.Core.Path.{◌≡◌}
+use Rattle.std.specs.Prelude.{Ok}
 use Rattle.judge.proofs.judge.Goals as goal
 
 pub returns-then-too_deep : goal.returns-then-too_deep
 returns-then-too_deep c = search (rules, judge_deep)
 
-pub returns-then-p-text : goal.returns-then-p-text
-returns-then-p-text c = search (rules, judge_wrong, not-true)
-
-pub returns-then-not-ok : goal.returns-then-not-ok
-returns-then-not-ok c = search (rules, judge_incomplete, not-true)
+pub returns-in_err-p : goal.returns-in_err-p
+returns-in_err-p c =
+    let p = err_from_is_err_and c.from_residual.result c.from_residual.ensures.1 in
+    let h = c.in_err-p.ensures.cases in
+    rw (p.1, p.2) (judge_stopped _ _ _ _ c.too_deep.ensures c.if-too_deep.false _ _ c.read_text.ensures (λ q e. grind (arith, h)) (λ d e. grind (arith, h)))
 
 pub overflow_sub-top : goal.overflow_sub-top
-overflow_sub-top c = search (rules, some-node, not-true, not-false)
+overflow_sub-top c =
+    let h = c.in_ok-p.ensures.cases in
+    let k : c.read_text.result ≡ Ok c.in_ok-p.p = grind (arith, h) in
+    some-node _ _ _ _ (rw k at c.read_text.ensures) c.requires
 
 pub nesting-nested-requires : goal.nesting-nested-requires
-nesting-nested-requires c = search (rules, top_at, not-false)
+nesting-nested-requires c =
+    let h = c.in_ok-p.ensures.cases in
+    let k : c.read_text.result ≡ Ok c.in_ok-p.p = grind (arith, h) in
+    top_at _ _ _ _ (rw k at c.read_text.ensures) c.requires
 
 pub returns-then-nested-gt-MOST_NESTED : goal.returns-then-nested-gt-MOST_NESTED
-returns-then-nested-gt-MOST_NESTED c = judge_loop _ _ _ _ c.read_text-p.ensures c.requires c.if-not-ok.false _ c.too_deep.ensures c.if-too_deep.false _ c.nesting-nested.ensures.0 _ c.if-nested-gt-MOST_NESTED.true c.refused-then-nested-gt-MOST_NESTED.ensures
+returns-then-nested-gt-MOST_NESTED c =
+    let h = c.in_ok-p.ensures.cases in
+    let k : c.read_text.result ≡ Ok c.in_ok-p.p = grind (arith, h) in
+    judge_loop _ _ _ _ (rw k at c.read_text.ensures) c.requires _ c.too_deep.ensures c.if-too_deep.false _ c.nesting-nested.ensures.0 c.if-nested-gt-MOST_NESTED.true
 
 pub overflow_add-places : goal.overflow_add-places
-overflow_add-places c = search (rules, sum_fits, not-false)
+overflow_add-places c =
+    let h = c.in_ok-p.ensures.cases in
+    let k : c.read_text.result ≡ Ok c.in_ok-p.p = grind (arith, h) in
+    sum_fits _ _ _ _ (rw k at c.read_text.ensures) c.requires
 
 pub overflow_add-places-2 : goal.overflow_add-places-2
-overflow_add-places-2 c = search (rules, more-fits, not-false)
+overflow_add-places-2 c =
+    let h = c.in_ok-p.ensures.cases in
+    let k : c.read_text.result ≡ Ok c.in_ok-p.p = grind (arith, h) in
+    more-fits _ _ _ _ (rw k at c.read_text.ensures) c.requires
 
-pub returns-then-places-gt256 : goal.returns-then-places-gt256
-returns-then-places-gt256 c = judge_many _ _ _ _ c.read_text-p.ensures c.requires c.if-not-ok.false _ c.too_deep.ensures c.if-too_deep.false _ c.nesting-nested.ensures.0 _ c.if-nested-gt-MOST_NESTED.false c.if-places-gt256.true c.refused-then-places-gt256.ensures
+pub returns-then-places-gt-MOST_PLACES : goal.returns-then-places-gt-MOST_PLACES
+returns-then-places-gt-MOST_PLACES c =
+    let h = c.in_ok-p.ensures.cases in
+    let k : c.read_text.result ≡ Ok c.in_ok-p.p = grind (arith, h) in
+    judge_many _ _ _ _ (rw k at c.read_text.ensures) c.requires _ c.too_deep.ensures c.if-too_deep.false _ c.nesting-nested.ensures.0
+    c.if-nested-gt-MOST_NESTED.false c.if-places-gt-MOST_PLACES.true
 
 pub returns : goal.returns
-returns c = judge_good _ _ _ _ c.read_text-p.ensures c.requires c.if-not-ok.false _ c.too_deep.ensures c.if-too_deep.false _ c.nesting-nested.ensures.0 c.if-nested-gt-MOST_NESTED.false c.if-places-gt256.false _ c.factor_of-factor.ensures.0
+returns c =
+    let h = c.in_ok-p.ensures.cases in
+    let k : c.read_text.result ≡ Ok c.in_ok-p.p = grind (arith, h) in
+    judge_good _ _ _ _ (rw k at c.read_text.ensures) c.requires _ c.too_deep.ensures c.if-too_deep.false _ c.nesting-nested.ensures.0
+    c.if-nested-gt-MOST_NESTED.false c.if-places-gt-MOST_PLACES.false _ c.factor_of.ensures.0

@@ -1,12 +1,8 @@
 -- `part_answers::judge_parts` meets its contract by the laws of Laws.
 use native.Mathlib.Omega.{arith}
+use mathlib.Core.Path.{refl}
 use borrow.Author.Rules.{rules}
 use Rattle.reading.proofs.Laws.{text-answers, defines-answer, letters-answer, no_answer, target_byte}
-use Rattle.part_answers.proofs.judge_parts.Reads as reads
-use Rattle.part_answers.proofs.judge_parts.Lts as lts
-use Rattle.judge.proofs.judge.Reads as judge-reads
-use Rattle.reading.proofs.has_foreign.Reads as has-foreign-reads
-use Rattle.reading.proofs.refused.Reads as refused-reads
 use Rattle.part_answers.proofs.judge_parts.Goals as goal
 
 pub overflow_add-end : goal.overflow_add-end
@@ -15,8 +11,8 @@ overflow_add-end c = omega arith
 pub slice_bounds-judge-count : goal.slice_bounds-judge-count
 slice_bounds-judge-count c = omega arith
 
-pub returns-then-answer-ne0 : goal.returns-then-answer-ne0
-returns-then-answer-ne0 c = search (rules, text-answers)
+pub returns-in-Err : goal.returns-in-Err
+returns-in-Err c = text-answers _ _ _ _ _ c.requires _ _ refl c.in-Err.ensures _ _ refl (search rules)
 
 pub returns-then-parts : goal.returns-then-parts
 returns-then-parts c = search (rules, defines-answer)

@@ -2,108 +2,58 @@
 -- their contracts. The measure: four times the bytes of text left, and a rank for each reader.
 -- Invariants of the loops over parts: Begun. Laws: ReaderLaws, PartLaws.
 use Rattle.primaries.proofs.PrimaryLaws.{before-end}
-use Rattle.pattern.proofs.ReaderLaws.{factor-fails, factor-fits, factor-ends, primary-simple, primary-empty, primary-again, primary-needs, primary-group}
-use Rattle.pattern.proofs.PartLaws.{Begun, begun-none, begun-fits, begun-length, begun-chained, branch-unread, branch-whole, branch_less, branch-again, pattern-unread, pattern-whole, pattern-less, pattern-again}
-use Rattle.nodes.specs.declared.Sort.TheVariants.{Sequence, Alternation}
-use Rattle.rules.specs.Language as language
-use borrow.Author.Tests.{not-true, not-false}
+use Rattle.pattern.proofs.ReaderLaws.{factor-fails, factor-ends, primary-simple, primary-empty, group-fails, primary-group}
+use Rattle.pattern.proofs.PartLaws.{begun-none, begun-chained, branch-unread, branch-whole, branch-again, pattern-unread, pattern-whole, pattern-again}
+use Rattle.std.proofs.lemmas.Result.{err_from_is_err_and}
 use native.Mathlib.Omega.{arith}
-use lib.ListN.{length}
-use Prim.Native.Nat.{◌+◌, ◌*◌, ◌-◌}
 use borrow.Author.Rules.{rules}
-use Prim.Native.Nat.{ℕ, ◌<◌}
 use Rattle.pattern.proofs.+branch_factor_pattern_primary.Goals as goal
 
 pub branch-loop-f-init : goal.branch-loop-f-init
 branch-loop-f-init t c = begun-none _ _ _ _ _ _ _ c.requires
 
-pub branch-factor-f-requires : goal.branch-factor-f-requires
-branch-factor-f-requires t c = (
-  omega (arith, c.loop-f.invariant.on, c.loop-f.invariant.in_text, c.decreases),
-  begun-fits
-      _ _ _ _ _ _ _ _ _ _ c.loop-f.invariant,
-)
-
-pub branch-shape_of-room-then-not-ok : goal.branch-shape_of-room-then-not-ok
-branch-shape_of-room-then-not-ok t c = begun-length _ _ _ _ _ _ _ _ _ _ c.loop-f.invariant _ _ _ c.factor-f.ensures
-
-pub branch-returns-then-not-ok : goal.branch-returns-then-not-ok
-branch-returns-then-not-ok t c = branch-unread _ _ _ _ _ _ _ c.loop-f.invariant _ _ c.factor-f.ensures
-    c.if-not-ok.true
+pub branch-returns-in_err-f : goal.branch-returns-in_err-f
+branch-returns-in_err-f t c =
+    let p = err_from_is_err_and c.from_residual.result c.from_residual.ensures.1 in
+    rw (p.1, p.2) (branch-unread _ _ _ _ _ _ _ c.loop-f.invariant _ _ c.in_err-f.ensures)
 
 pub branch-chain-requires : goal.branch-chain-requires
-branch-chain-requires t c = begun-chained _ _ _ _ _ _ _ _ _ _ c.loop-f.invariant _ _ _
-    c.factor-f.ensures c.if-not-ok.false
-
-pub branch-shape_of-room-then-ends : goal.branch-shape_of-room-then-ends
-branch-shape_of-room-then-ends t c = search (rules, begun-length)
+branch-chain-requires t c = begun-chained _ _ _ _ _ _ _ _ _ _ c.loop-f.invariant _ _ _ c.in_ok-f.ensures
 
 pub branch-returns-then-ends : goal.branch-returns-then-ends
-branch-returns-then-ends t c = branch-whole _ _ _ _ _ _ _ c.loop-f.invariant _ _
-    c.factor-f.ensures
-    c.if-not-ok.false _ c.peek.ensures _
-    c.ends.ensures c.if-ends.true _ _ c.chain.ensures
-
-pub branch-loop-f-smaller : goal.branch-loop-f-smaller
-branch-loop-f-smaller t c = branch_less _ _ _ _ _ _ _ c.loop-f.invariant _ _
-    c.factor-f.ensures c.if-not-ok.false _ c.peek.ensures _
-    c.ends.ensures
+branch-returns-then-ends t c =
+    branch-whole _ _ _ _ _ _ _ c.loop-f.invariant _ _ c.in_ok-f.ensures _ c.peek.ensures _ c.ends.ensures c.if-ends.true _ _ c.chain.ensures
 
 pub branch-loop-f-preserved : goal.branch-loop-f-preserved
-branch-loop-f-preserved t c = branch-again _ _ _ _ _ _ _ c.loop-f.invariant _ _
-    c.factor-f.ensures c.if-not-ok.false _ c.peek.ensures _
-    c.ends.ensures c.if-ends.false
+branch-loop-f-preserved t c = branch-again _ _ _ _ _ _ _ c.loop-f.invariant _ _ c.in_ok-f.ensures _ c.peek.ensures _ c.ends.ensures c.if-ends.false
 
-pub factor-returns-then-not-ok : goal.factor-returns-then-not-ok
-factor-returns-then-not-ok t c = search (rules, factor-fails, not-true)
-
-pub factor-finish-requires : goal.factor-finish-requires
-factor-finish-requires t c = search (rules, factor-fits, not-false)
+pub factor-returns-in_err-p : goal.factor-returns-in_err-p
+factor-returns-in_err-p t c =
+    let p = err_from_is_err_and c.from_residual.result c.from_residual.ensures.1 in rw (p.1, p.2) (factor-fails _ _ _ _ _ _ c.in_err-p.ensures)
 
 pub factor-returns : goal.factor-returns
-factor-returns t c = search (rules, factor-ends, not-false)
+factor-returns t c = factor-ends _ _ _ _ _ _ c.in_ok-p.ensures _ _ c.finish.ensures
 
 pub pattern-loop-b-init : goal.pattern-loop-b-init
 pattern-loop-b-init t c = begun-none _ _ _ _ _ _ _ c.requires
 
-pub pattern-branch-b-requires : goal.pattern-branch-b-requires
-pattern-branch-b-requires t c = (
-  omega (arith, c.loop-b.invariant.on, c.loop-b.invariant.in_text, c.decreases),
-  begun-fits _ _ _ _ _ _ _ _ _ _ c.loop-b.invariant,
-)
-
-pub pattern-shape_of-room-then-not-ok : goal.pattern-shape_of-room-then-not-ok
-pattern-shape_of-room-then-not-ok t c = begun-length _ _ _ _ _ _ _ _ _ _ c.loop-b.invariant _ _ _ c.branch-b.ensures
-
-pub pattern-returns-then-not-ok : goal.pattern-returns-then-not-ok
-pattern-returns-then-not-ok t c = pattern-unread _ _ _ _ _ _ _ c.loop-b.invariant _ _ c.branch-b.ensures
-    c.if-not-ok.true
+pub pattern-returns-in_err-b : goal.pattern-returns-in_err-b
+pattern-returns-in_err-b t c =
+    let p = err_from_is_err_and c.from_residual.result c.from_residual.ensures.1 in
+    rw (p.1, p.2) (pattern-unread _ _ _ _ _ _ _ c.loop-b.invariant _ _ c.in_err-b.ensures)
 
 pub pattern-chain-requires : goal.pattern-chain-requires
-pattern-chain-requires t c = begun-chained _ _ _ _ _ _ _ _ _ _ c.loop-b.invariant _ _ _
-    c.branch-b.ensures c.if-not-ok.false
-
-pub pattern-shape_of-room-then-peek-ne124 : goal.pattern-shape_of-room-then-peek-ne124
-pattern-shape_of-room-then-peek-ne124 t c = search (rules, begun-length)
+pattern-chain-requires t c = begun-chained _ _ _ _ _ _ _ _ _ _ c.loop-b.invariant _ _ _ c.in_ok-b.ensures
 
 pub pattern-returns-then-peek-ne124 : goal.pattern-returns-then-peek-ne124
-pattern-returns-then-peek-ne124 t c = pattern-whole _ _ _ _ _ _ _ c.loop-b.invariant _ _
-    c.branch-b.ensures
-    c.if-not-ok.false _ c.peek.ensures
-    c.if-peek-ne124.true _ _ c.chain.ensures
+pattern-returns-then-peek-ne124 t c =
+    pattern-whole _ _ _ _ _ _ _ c.loop-b.invariant _ _ c.in_ok-b.ensures _ c.peek.ensures c.if-peek-ne124.true _ _ c.chain.ensures
 
 pub pattern-after-from-requires : goal.pattern-after-from-requires
 pattern-after-from-requires t c = before-end _ _ _ _ c.peek.ensures c.if-peek-ne124.false (omega arith)
 
-pub pattern-loop-b-smaller : goal.pattern-loop-b-smaller
-pattern-loop-b-smaller t c = pattern-less _ _ _ _ _ _ _ c.loop-b.invariant _ _
-    c.branch-b.ensures c.if-not-ok.false _ c.peek.ensures _
-    c.after-from.ensures
-
 pub pattern-loop-b-preserved : goal.pattern-loop-b-preserved
-pattern-loop-b-preserved t c = pattern-again _ _ _ _ _ _ _ c.loop-b.invariant _ _
-    c.branch-b.ensures c.if-not-ok.false _ c.peek.ensures
-    c.if-peek-ne124.false _ c.after-from.ensures
+pattern-loop-b-preserved t c = pattern-again _ _ _ _ _ _ _ c.loop-b.invariant _ _ c.in_ok-b.ensures _ c.peek.ensures c.if-peek-ne124.false _ c.after-from.ensures
 
 pub primary-returns-then-peek-ne40 : goal.primary-returns-then-peek-ne40
 primary-returns-then-peek-ne40 t c = search (rules, primary-simple)
@@ -117,11 +67,11 @@ primary-empty_head-requires t c = before-end _ _ _ _ c.peek-2.ensures c.if-peek-
 pub primary-returns-then-peek-eq41 : goal.primary-returns-then-peek-eq41
 primary-returns-then-peek-eq41 t c = search (rules, primary-empty)
 
-pub primary-pattern-p-requires : goal.primary-pattern-p-requires
-primary-pattern-p-requires t c = search (rules, primary-again, not-true, not-false)
-
-pub primary-shut_group-requires : goal.primary-shut_group-requires
-primary-shut_group-requires t c = search (rules, primary-needs)
+pub primary-returns-in_err-p : goal.primary-returns-in_err-p
+primary-returns-in_err-p t c =
+    let p = err_from_is_err_and c.from_residual.result c.from_residual.ensures.1 in
+    rw (p.1, p.2) (group-fails _ _ _ _ _ c.peek.ensures c.if-peek-ne40.false _ c.after-from.ensures _ c.peek-2.ensures c.if-peek-eq41.false _ _ c.in_err-p.ensures)
 
 pub primary-returns : goal.primary-returns
-primary-returns t c = search (rules, primary-group)
+primary-returns t c =
+    primary-group _ _ _ _ _ c.peek.ensures c.if-peek-ne40.false _ c.after-from.ensures _ c.peek-2.ensures c.requires _ _ c.in_ok-p.ensures c.if-peek-eq41.false _ c.shut_group.ensures

@@ -1,17 +1,11 @@
 -- The functions `branch`, `factor`, `pattern`, `primary` of pattern, which call each other, meet
 -- their contracts. The measure: four times the bytes of text left, and a rank for each reader.
 -- Invariants of the loops over parts: Begun. Laws: ReaderLaws, PartLaws.
-use Rattle.primaries.proofs.PrimaryLaws.{before-end}
-use Rattle.pattern.proofs.ReaderLaws.{factor-fails, factor-fits, factor-ends, primary-simple, primary-empty, primary-again, primary-needs, primary-group}
-use Rattle.pattern.proofs.PartLaws.{Begun, begun-none, begun-fits, begun-length, begun-chained, branch-unread, branch-whole, branch_less, branch-again, pattern-unread, pattern-whole, pattern-less, pattern-again}
+use Rattle.pattern.proofs.PartLaws.{Begun}
 use Rattle.nodes.specs.declared.Sort.TheVariants.{Sequence, Alternation}
 use Rattle.rules.specs.Language as language
-use borrow.Author.Tests.{not-true, not-false}
-use native.Mathlib.Omega.{arith}
 use lib.ListN.{length}
 use Prim.Native.Nat.{◌+◌, ◌*◌, ◌-◌}
-use borrow.Author.Rules.{rules}
-use Prim.Native.Nat.{ℕ, ◌<◌}
 use Rattle.pattern.proofs.+branch_factor_pattern_primary.Given as goal
 
 abbrev pub decreases-branch : goal.decreases-branch

@@ -1,9 +1,7 @@
 -- `phrases::chain` meets its contract. The loop's invariant: joining what is left leaves what
 -- joining all leaves. The measure is the node behind the parts that are left. Laws: ChainLaws.
-use Rattle.phrases.proofs.ChainLaws.{Goes, going_none, going_in, going_at, going_joins, going_less, going_more, going_all, joined_length}
-use borrow.Author.Rules.{rules}
-use native.Mathlib.Omega.{arith}
-use mathlib.Core.Path.{◌≡◌, refl}
+use Rattle.phrases.proofs.ChainLaws.{Goes}
+use mathlib.Core.Path.{◌≡◌}
 use lib.ListN.{length}
 use Rattle.phrases.proofs.chain.Given as goal
 

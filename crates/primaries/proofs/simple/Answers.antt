@@ -1,42 +1,26 @@
 -- `primaries::simple` meets its contract. Laws: PrimaryLaws.
+use Rattle.primaries.proofs.PrimaryLaws.{anchor-here, letter-here, simple-anchor, simple-letter, simple-other, simple-touch}
 use native.Mathlib.Omega.{arith}
-use Rattle.primaries.proofs.PrimaryLaws.{simple-caret, simple-dollar, simple-letter, simple-other, simple-touch, letter-next, next-in}
-use borrow.Author.Tests.{not-true, not-false}
 use borrow.Author.Rules.{rules}
 use Rattle.primaries.proofs.simple.Goals as goal
 
-pub overflow_add-at : goal.overflow_add-at
-overflow_add-at c = omega arith
-
-pub skip-to-requires : goal.skip-to-requires
-skip-to-requires c = search (rules, next-in)
-
-pub returns-then-b-eq94 : goal.returns-then-b-eq94
-returns-then-b-eq94 c = simple-caret _ _ _ _ c.peek-b.ensures _ _ c.if-b-eq94.true c.skip-to.ensures c.plain_node-node.ensures
-
-pub overflow_add-at-then-b-eq36 : goal.overflow_add-at-then-b-eq36
-overflow_add-at-then-b-eq36 c = omega arith
-
-pub skip-to-requires-then-b-eq36 : goal.skip-to-requires-then-b-eq36
-skip-to-requires-then-b-eq36 c = search (rules, next-in)
-
-pub returns-then-b-eq36 : goal.returns-then-b-eq36
-returns-then-b-eq36 c = simple-dollar _ _ _ _ c.peek-b.ensures _ _ c.if-b-eq36.true c.skip-to-then-b-eq36.ensures c.plain_node-node-then-b-eq36.ensures
-
-pub returns-then-not-is_letter : goal.returns-then-not-is_letter
-returns-then-not-is_letter c = search (rules, simple-other, not-true)
-
-pub overflow_add-at-2 : goal.overflow_add-at-2
-overflow_add-at-2 c = omega arith
+pub leaf-requires : goal.leaf-requires
+leaf-requires c = anchor-here _ _ c.args.count _ c.peek-b.ensures c.in-94.is
 
 pub returns-then-is_letter : goal.returns-then-is_letter
-returns-then-is_letter c = search (rules, simple-touch, not-false)
+returns-then-is_letter c = simple-touch _ _ _ _ c.peek-b.ensures _ _ (omega arith) (omega arith) c.peek.ensures c.is_letter.ensures c.if-is_letter.true
 
-pub overflow_add-at-3 : goal.overflow_add-at-3
-overflow_add-at-3 c = omega arith
+pub leaf-requires-in-65-to-90 : goal.leaf-requires-in-65-to-90
+leaf-requires-in-65-to-90 c = search (rules, letter-here)
 
-pub skip-to-requires-2 : goal.skip-to-requires-2
-skip-to-requires-2 c = search (rules, letter-next, not-true, not-false)
+pub returns-in-94 : goal.returns-in-94
+returns-in-94 c = simple-anchor _ _ _ _ c.peek-b.ensures _ c.in-94.is c.leaf.ensures
 
-pub returns : goal.returns
-returns c = simple-letter _ _ _ _ c.peek-b.ensures _ _ _ _ _ c.if-b-eq94.false c.if-b-eq36.false c.is_letter.ensures c.if-not-is_letter.false c.peek.ensures c.is_letter-2.ensures c.if-is_letter.false c.skip-to-2.ensures c.plain_node-node-2.ensures
+pub returns-else-is_letter : goal.returns-else-is_letter
+returns-else-is_letter c = search (rules, simple-letter)
+
+pub returns-in_default : goal.returns-in_default
+returns-in_default c = search (rules, simple-other)
+
+pub returns-in_default-2 : goal.returns-in_default-2
+returns-in_default-2 c = search (rules, simple-other)
