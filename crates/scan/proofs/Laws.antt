@@ -1,16 +1,14 @@
--- Passes over the bytes of a text: the depth of parentheses so far, and a byte that was not found
--- so far.
+-- Passes over the bytes of a text: the depth of parentheses so far, and a byte in a text.
 use mathlib.Core.Path.{◌≡◌, refl, sym, ap, ◌∙◌}
 use mathlib.Core.Bool.{Bool, true, false, ◌||◌}
-use mathlib.Core.List.{List, ◌∷◌}
-use Prim.Native.Nat.{ℕ, suc, ◌+◌, ◌-◌, ◌≤◌, ◌<◌}
+use mathlib.Core.List.{List, [], ◌∷◌}
+use Rattle.std.specs.List.{list_any}
+use Prim.Native.Nat.{ℕ, suc, ◌+◌, ◌≤◌, ◌<◌}
 use native.Mathlib.Omega.{arith}
-use mir.Val.{Fits as Fits-in}
-use mir.Syntax.{w64}
 use lib.Dec.{eqb, ltb}
 use lib.ListN.{length, get_or, drop, drop_of_length-le}
 use lib.Seq.{drop-cons}
-use borrow.Author.Tests.{lt-ltb, le-ltb, eq-eqb, ne_eqb, eqb-true, eqb-false}
+use borrow.Author.Tests.{lt-ltb, le-ltb, eqb-true, eqb-false}
 use Rattle.rules.specs.Basics.{pick, has}
 use Rattle.rules.specs.Answers.{deep}
 use Rattle.scan.specs.Depth.{Behind}
@@ -23,9 +21,6 @@ pub record Deep (s : List ℕ) (d : Depth) (i : ℕ) : Type 0 where
   pub few_open : d.opened ≤ i
   pub few_closed : d.closed ≤ i
   pub inside : i ≤ length s
-
-pub deep_none : (s : List ℕ) → Deep s (record { opened = 0; closed = 0 }) 0
-deep_none s = record { same = refl; few_open = omega arith; few_closed = omega arith; inside = omega arith }
 
 -- the counts by tests
 behind-is : (b : ℕ) (d r : Depth) → Behind b d r → (r.opened ≡ pick (eqb b 40) (d.opened + 1) d.opened) × (r.closed ≡ pick (eqb b 41) (d.closed + 1) d.closed)
@@ -75,30 +70,9 @@ module _ (s : List ℕ) (d : Depth) (i : ℕ) (h : Deep s d i) where
           inside = omega arith;
         }
 
-    pub deep-sum : length s < 60000 → Fits-in w64 (r.closed + 8)
-    deep-sum f = record { fits = omega (arith, few_more.1) }
-
 -- ---- a byte in a text
 
-pub record Without (s : List ℕ) (b i : ℕ) : Type 0 where
-  pub same : has b s ≡ has b (drop i s)
-  pub inside : i ≤ length s
-
-pub without_none : (s : List ℕ) (b : ℕ) → Without s b 0
-without_none s b = record { same = refl; inside = omega arith }
-
-module _ (s : List ℕ) (b i : ℕ) (h : Without s b i) where
-  pub without_end : length s ≤ i → false ≡ has b s
-  unfolding has
-  without_end l = sym (h.same ∙ ap (has b) (drop_of_length-le s l))
-
-  module _ (l : i < length s) where
-    has-step : has b (drop i s) ≡ (eqb (get_or s i 0) b || has b (drop (i + 1) s))
-    unfolding has
-    has-step = ap (has b) (drop-cons s i 0 l ∙ ap (λ (k : ℕ). get_or s i 0 ∷ drop k s) (let z : suc i ≡ i + 1 = omega arith in z))
-
-    pub without_found : get_or s i 0 ≡ b → true ≡ has b s
-    without_found e = sym (h.same ∙ has-step ∙ ap (λ (t : Bool). t || has b (drop (i + 1) s)) (eq-eqb (get_or s i 0) b e))
-
-    pub without_more : (get_or s i 0 ≡ b → ⊥) → Without s b (i + 1)
-    without_more n = record { same = h.same ∙ has-step ∙ ap (λ (t : Bool). t || has b (drop (i + 1) s)) (ne_eqb (get_or s i 0) b n); inside = omega arith }
+pub has-any : (b : ℕ) (s : List ℕ) → list_any (λ y. eqb y b) s ≡ has b s
+unfolding has
+has-any b [] = refl
+has-any b (x ∷ s) = ap (λ (t : Bool). eqb x b || t) (has-any b s)

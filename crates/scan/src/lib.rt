@@ -15,24 +15,24 @@ pub struct Depth {
     pub closed: usize,
 }
 
-// The same behind one more byte.
-fn behind(b: u8, d: Depth) -> Depth
-    requires { (d.opened + 1 < 2 ^ 64) × (d.closed + 1 < 2 ^ 64) }
-    ensures { Behind b d result }
-{
-    if b == b'(' {
-        return Depth {
-            opened: d.opened + 1,
-            closed: d.closed,
-        };
+impl Depth {
+    // The same behind one more byte.
+    fn behind(self, b: u8) -> Depth
+        requires { (self.opened + 1 < 2 ^ 64) × (self.closed + 1 < 2 ^ 64) }
+        ensures { Behind b self result }
+    {
+        match b {
+            b'(' => Depth {
+                opened: self.opened + 1,
+                ..self
+            },
+            b')' => Depth {
+                closed: self.closed + 1,
+                ..self
+            },
+            _ => self,
+        }
     }
-    if b == b')' {
-        return Depth {
-            opened: d.opened,
-            closed: d.closed + 1,
-        };
-    }
-    d
 }
 
 // Whether parentheses opened less closed pass 8 at some byte.
@@ -44,13 +44,11 @@ pub fn too_deep(text: &[u8]) -> bool
         opened: 0,
         closed: 0,
     };
-    let mut i = 0usize;
-    while i < text.len() {
-        d = behind(text[i], d);
+    for b in text {
+        d = d.behind(*b);
         if d.closed + 8 < d.opened {
             return true;
         }
-        i = i + 1;
     }
     false
 }
@@ -60,12 +58,5 @@ pub fn too_deep(text: &[u8]) -> bool
 pub fn has_byte(text: &[u8], b: u8) -> bool
     ensures { result ≡ has b text.now }
 {
-    let mut i = 0usize;
-    while i < text.len() {
-        if text[i] == b {
-            return true;
-        }
-        i = i + 1;
-    }
-    false
+    text.contains(&b)
 }
