@@ -20,7 +20,22 @@ pub struct Measure {
     pub column: u8,
 }
 
+// The functions' numbers, as associated constants: the form that document 01 names.
 impl Measure {
+    pub const COUNT: u8 = 1;
+
+    pub const SUM: u8 = 2;
+
+    pub const MIN: u8 = 3;
+
+    pub const MAX: u8 = 4;
+
+    pub const FIRST: u8 = 5;
+
+    pub const LAST: u8 = 6;
+
+    pub const AVG: u8 = 7;
+
     // The measure of a record's checked bytes.
     pub fn make(function: u8, letter: u8, column: u8) -> Measure
         ensures { (result.function ≡ function) × (result.letter ≡ letter) × (result.column ≡ column) }

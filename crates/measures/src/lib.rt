@@ -31,12 +31,12 @@ fn function_of(number: u8) -> Function
     ensures { number_in result ≡ number }
 {
     match number {
-        1 => Function::Count,
-        2 => Function::Joined(Join::Sum),
-        3 => Function::Joined(Join::Min),
-        4 => Function::Joined(Join::Max),
-        5 => Function::First,
-        6 => Function::Last,
+        Measure::COUNT => Function::Count,
+        Measure::SUM => Function::Joined(Join::Sum),
+        Measure::MIN => Function::Joined(Join::Min),
+        Measure::MAX => Function::Joined(Join::Max),
+        Measure::FIRST => Function::First,
+        Measure::LAST => Function::Last,
         _ => Function::Avg,
     }
 }
