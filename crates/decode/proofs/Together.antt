@@ -4,15 +4,15 @@
 use mathlib.Core.Path.{◌≡◌, refl, sym, ap, ◌∙◌}
 use mathlib.Core.Bool.{true, false, ◌||◌}
 use mathlib.Core.List.{List, ◌∷◌}
-use Prim.Native.Nat.{ℕ, ◌+◌, ◌-◌, ◌*◌, ◌^◌, ◌≤◌, ◌<◌}
+use Prim.Native.Nat.{ℕ, ◌+◌, ◌*◌, ◌^◌, ◌≤◌, ◌<◌}
 use mir.Syntax.{w64}
 use mir.Val.{Fits}
 use native.Mathlib.Omega.{arith}
 use lib.Dec.{eqb}
 use lib.ListN.{length, get_or, take, drop}
 use borrow.Author.Tests.{eq-eqb, ne_eqb}
-use Rattle.records.specs.declared.Read.{Read}
-use Rattle.records.specs.declared.Read.TheVariants.{Record as Whole, Cut}
+use Rattle.std.specs.Prelude.{Some, None}
+use Rattle.records.specs.declared.Record.{Record as Read}
 use Rattle.rules.specs.Basics.{is_letter}
 use Rattle.rules.specs.Query.{Record, records, field, first_of_kind, columns_of, is_define, defined, text_of, condition_from, measures_from, parts}
 use Rattle.records.specs.Read.{record_of, records_at, read_at}
@@ -24,6 +24,7 @@ use Rattle.define_list.specs.declared.Behind.{Behind}
 use Rattle.decode.specs.declared.Head.{Head}
 use Rattle.decode.specs.declared.Tail.{Tail}
 use Rattle.query.specs.Ahead.{Ahead}
+use Rattle.query.specs.declared.Stage.TheVariants.{Shape, Text, Defines, Measures}
 use Rattle.decode.specs.Steps.{HeadOf, TailRoom, TailOf}
 use Rattle.define_list.specs.Defines.{PutDefines}
 use Rattle.measure_list.specs.Measures.{MeasuresRoom, PutMeasures}
@@ -52,164 +53,161 @@ module _ (s : List ℕ) (k b m : ℕ) (rs : List Record) where
 -- ---- the shape and the text
 
 module _ (s : List ℕ) (clean : first_answer s ≡ 0) where
-  start : Ahead s 0 0 0
+  start : Ahead s Shape 0
   start = at-start s clean
 
   pub first-inside : 0 < length s
-  first-inside = before-end s 0 0 0 start (λ e. omega arith)
+  first-inside = before-end s Shape 0 start (λ e. omega arith)
 
-  module _ (r1 : Read) (e1 : r1 ≡ read_at s 0) where
-    pub first-whole : r1 ≡ Cut → ⊥
-    first-whole = not-cut s 0 0 0 start r1 (λ e. omega arith) e1
+  pub first-whole : None ≡ read_at s 0 → ⊥
+  first-whole e = not-cut s Shape 0 start (λ w. omega arith) e
 
-    module _ (k1 b1 m1 n1 : ℕ) (q1 : r1 ≡ Whole k1 b1 m1 n1) where
-      shape : (k1 ≡ 1) × Ahead s 1 0 n1
-      shape = shape_next s 0 0 0 start r1 k1 b1 m1 n1 e1 q1 refl
+  module _ (x1 : Read) (e1 : Some x1 ≡ read_at s 0) where
+    shape : (x1.kind ≡ 1) × Ahead s Text x1.next
+    shape = shape_next s 0 x1 e1 start
 
-      shaped : (m1 ≡ 2) × (1 ≤ get_or s b1 0) × (get_or s b1 0 ≤ 8)
-      shaped = shape_says s (columns_of s) k1 b1 m1 (this_fits s 0 0 0 start r1 k1 b1 m1 n1 e1 q1) shape.0
+    shaped : (x1.len ≡ 2) × (1 ≤ get_or s x1.start 0) × (get_or s x1.start 0 ≤ 8)
+    shaped = shape_says s (columns_of s) x1.kind x1.start x1.len (this_fits s Shape 0 start x1 e1) shape.0
 
-      pub shape_inside : b1 < length s
-      shape_inside = let f = found s 0 r1 k1 b1 m1 n1 e1 q1 in let i = f.inside in let j = f.body in let y = shaped.0 in omega arith
+    pub shape_inside : x1.start < length s
+    shape_inside = let f = found s 0 x1 e1 in let i = f.inside in let j = f.body in let y = shaped.0 in omega arith
 
-      all_records : records s ≡ record_of k1 b1 m1 ∷ records_at s n1
-      unfolding records records_at
-      all_records = read_more s 0 r1 k1 b1 m1 n1 e1 q1
+    all_records : records s ≡ record_of x1.kind x1.start x1.len ∷ records_at s x1.next
+    unfolding records records_at
+    all_records = read_more s 0 x1 e1
 
-      columns_are : columns_of s ≡ get_or s b1 0
-      columns_are = columns-at s k1 b1 m1 (records_at s n1) shape.0 (sym all_records)
+    columns_are : columns_of s ≡ get_or s x1.start 0
+    columns_are = columns-at s x1.kind x1.start x1.len (records_at s x1.next) shape.0 (sym all_records)
 
-      pub second-inside : n1 < length s
-      second-inside = before-end s 1 0 n1 shape.1 (λ e. omega arith)
+    pub second-inside : x1.next < length s
+    second-inside = before-end s Text x1.next shape.1 (λ e. omega arith)
 
-      module _ (r2 : Read) (e2 : r2 ≡ read_at s n1) where
-        pub second-whole : r2 ≡ Cut → ⊥
-        second-whole = not-cut s 1 0 n1 shape.1 r2 (λ e. omega arith) e2
+    pub second-whole : None ≡ read_at s x1.next → ⊥
+    second-whole e = not-cut s Text x1.next shape.1 (λ w. omega arith) e
 
-        module _ (k2 b2 m2 n2 : ℕ) (q2 : r2 ≡ Whole k2 b2 m2 n2) where
-          text : (k2 ≡ 2) × Ahead s 2 26 n2
-          text = text-next s 1 0 n1 shape.1 r2 k2 b2 m2 n2 e2 q2 refl
+    module _ (x2 : Read) (e2 : Some x2 ≡ read_at s x1.next) where
+      text : (x2.kind ≡ 2) × Ahead s (Defines 26) x2.next
+      text = text-next s x1.next x2 e2 shape.1
 
-          both : List Record
-          both = record_of k2 b2 m2 ∷ records_at s n2
+      both : List Record
+      both = record_of x2.kind x2.start x2.len ∷ records_at s x2.next
 
-          both-records : records s ≡ record_of k1 b1 m1 ∷ both
-          unfolding both
-          both-records = all_records ∙ ap (λ (x : List Record). record_of k1 b1 m1 ∷ x) (read_more s n1 r2 k2 b2 m2 n2 e2 q2)
+      both-records : records s ≡ record_of x1.kind x1.start x1.len ∷ both
+      unfolding both
+      both-records = all_records ∙ ap (λ (x : List Record). record_of x1.kind x1.start x1.len ∷ x) (read_more s x1.next x2 e2)
 
-          not_first : (j : ℕ) → 1 < j → k1 ≡ j → ⊥
-          not_first j h w = let z = shape.0 in omega arith
+      not_first : (j : ℕ) → 1 < j → x1.kind ≡ j → ⊥
+      not_first j h w = let z = shape.0 in omega arith
 
-          not-second : (j : ℕ) → 2 < j → k2 ≡ j → ⊥
-          not-second j h w = let z = text.0 in omega arith
+      not-second : (j : ℕ) → 2 < j → x2.kind ≡ j → ⊥
+      not-second j h w = let z = text.0 in omega arith
 
-          -- neither is a DEFINE
-          no-first : is_define k1 ≡ false
-          no-first = other-kind k1 1 shape.0 (λ w. omega arith) (λ w. omega arith)
+      -- neither is a DEFINE
+      no-first : is_define x1.kind ≡ false
+      no-first = other-kind x1.kind 1 shape.0 (λ w. omega arith) (λ w. omega arith)
 
-          no_second : is_define k2 ≡ false
-          no_second = other-kind k2 2 text.0 (λ w. omega arith) (λ w. omega arith)
+      no_second : is_define x2.kind ≡ false
+      no_second = other-kind x2.kind 2 text.0 (λ w. omega arith) (λ w. omega arith)
 
-          text-is : take m2 (drop b2 s) ≡ text_of s
-          unfolding text_of both
-          text-is = ap (λ (x : Record). take x.len (drop x.start s)) (sym (ap (first_of_kind 2) both-records ∙ other-first s k1 b1 m1 both 2 (not_first 2 (omega arith))
-              ∙ this_first s k2 b2 m2 (records_at s n2) 2 text.0))
+      text-is : take x2.len (drop x2.start s) ≡ text_of s
+      unfolding text_of both
+      text-is = ap (λ (x : Record). take x.len (drop x.start s)) (sym (ap (first_of_kind 2) both-records ∙ other-first s x1.kind x1.start x1.len both 2 (not_first 2 (omega arith))
+          ∙ this_first s x2.kind x2.start x2.len (records_at s x2.next) 2 text.0))
 
-          skip_is : first_of_kind 4 (records_at s n2) ≡ first_of_kind 4 (records s)
-          unfolding both
-          skip_is = sym (ap (first_of_kind 4) both-records ∙ other-first s k1 b1 m1 both 4 (not_first 4 (omega arith))
-              ∙ other-first s k2 b2 m2 (records_at s n2) 4 (not-second 4 (omega arith)))
+      skip_is : first_of_kind 4 (records_at s x2.next) ≡ first_of_kind 4 (records s)
+      unfolding both
+      skip_is = sym (ap (first_of_kind 4) both-records ∙ other-first s x1.kind x1.start x1.len both 4 (not_first 4 (omega arith))
+          ∙ other-first s x2.kind x2.start x2.len (records_at s x2.next) 4 (not-second 4 (omega arith)))
 
-          all_are : defined s (records_at s n2) ≡ defined s (records s)
-          unfolding both
-          all_are = sym (ap (defined s) both-records ∙ not-define s (record_of k1 b1 m1) both no-first
-              ∙ not-define s (record_of k2 b2 m2) (records_at s n2) no_second)
+      all_are : defined s (records_at s x2.next) ≡ defined s (records s)
+      unfolding both
+      all_are = sym (ap (defined s) both-records ∙ not-define s (record_of x1.kind x1.start x1.len) both no-first
+          ∙ not-define s (record_of x2.kind x2.start x2.len) (records_at s x2.next) no_second)
 
-          letters-are : (letter : ℕ) → condition_from s (records_at s n2) letter ≡ condition_from s (records s) letter
-          unfolding both
-          letters-are letter =
-              sym (ap (λ (x : List Record). condition_from s x letter) both-records ∙ other-letters s k1 b1 m1 both letter no-first
-              ∙ other-letters s k2 b2 m2 (records_at s n2) letter no_second)
+      letters-are : (letter : ℕ) → condition_from s (records_at s x2.next) letter ≡ condition_from s (records s) letter
+      unfolding both
+      letters-are letter =
+          sym (ap (λ (x : List Record). condition_from s x letter) both-records ∙ other-letters s x1.kind x1.start x1.len both letter no-first
+          ∙ other-letters s x2.kind x2.start x2.len (records_at s x2.next) letter no_second)
 
-          measures_are : measures_from s (records_at s n2) ≡ measures_from s (records s)
-          unfolding both
-          measures_are = sym (ap (measures_from s) both-records ∙ other-measures s k1 b1 m1 both (not_first 5 (omega arith))
-              ∙ other-measures s k2 b2 m2 (records_at s n2) (not-second 5 (omega arith)))
+      measures_are : measures_from s (records_at s x2.next) ≡ measures_from s (records s)
+      unfolding both
+      measures_are = sym (ap (measures_from s) both-records ∙ other-measures s x1.kind x1.start x1.len both (not_first 5 (omega arith))
+          ∙ other-measures s x2.kind x2.start x2.len (records_at s x2.next) (not-second 5 (omega arith)))
 
-          pub head_is : (columns : ℕ) → columns ≡ get_or s b1 0 → HeadOf s (record { columns = columns; start = b2; len = m2; next = n2 })
-          head_is columns ec =
-              let z1 = shaped.1 in
-              let z2 = shaped.2 in
-              let f = found s n1 r2 k2 b2 m2 n2 e2 q2 in
-              let i = f.inside in
-              let j = f.body in
-              record {
-                columns = ec ∙ sym columns_are;
-                some = omega arith;
-                most = omega arith;
-                text = text-is;
-                inside = omega arith;
-                short = text_says s (columns_of s) k2 b2 m2 (this_fits s 1 0 n1 shape.1 r2 k2 b2 m2 n2 e2 q2) text.0;
-                ahead = text.1;
-                skip = skip_is;
-                all = all_are;
-                letters = letters-are;
-                measures = measures_are;
-              }
+      pub head_is : (columns : ℕ) → columns ≡ get_or s x1.start 0 → HeadOf s (record { columns = columns; start = x2.start; len = x2.len; next = x2.next })
+      head_is columns ec =
+          let z1 = shaped.1 in
+          let z2 = shaped.2 in
+          let f = found s x1.next x2 e2 in
+          let i = f.inside in
+          let j = f.body in
+          record {
+            columns = ec ∙ sym columns_are;
+            some = omega arith;
+            most = omega arith;
+            text = text-is;
+            inside = omega arith;
+            short = text_says s (columns_of s) x2.kind x2.start x2.len (this_fits s Text x1.next shape.1 x2 e2) text.0;
+            ahead = text.1;
+            skip = skip_is;
+            all = all_are;
+            letters = letters-are;
+            measures = measures_are;
+          }
 
 -- ---- the skip and the measures
 
 module _ (s : List ℕ) (at : ℕ) (measures₀ : List ℕ) (room : TailRoom s at measures₀) where
   pub skip_there : at < length s
-  skip_there = before-end s 2 0 at room.ahead (λ e. omega arith)
+  skip_there = before-end s (Defines 0) at room.ahead (λ e. omega arith)
 
-  module _ (r : Read) (e : r ≡ read_at s at) where
-    pub skip_whole : r ≡ Cut → ⊥
-    skip_whole = not-cut s 2 0 at room.ahead r (λ w. omega arith) e
+  pub skip_whole : None ≡ read_at s at → ⊥
+  skip_whole e = not-cut s (Defines 0) at room.ahead (λ w. omega arith) e
 
-    module _ (k b m n : ℕ) (q : r ≡ Whole k b m n) where
-      skip : (k ≡ 4) × Ahead s 3 8 n
-      skip = skip_next s 2 0 at room.ahead r k b m n e q refl refl
+  module _ (x : Read) (e : Some x ≡ read_at s at) where
+    skip : (x.kind ≡ 4) × Ahead s (Measures 8) x.next
+    skip = skip_next s at x e room.ahead
 
-      skipped : (m ≡ 2) × (get_or s b 0 ≤ 3) × ((eqb (get_or s (b + 1) 0) 0 || is_letter (get_or s (b + 1) 0)) ≡ true)
-      skipped = skip_says s (columns_of s) k b m (this_fits s 2 0 at room.ahead r k b m n e q) skip.0
+    skipped : (x.len ≡ 2) × (get_or s x.start 0 ≤ 3) × ((eqb (get_or s (x.start + 1) 0) 0 || is_letter (get_or s (x.start + 1) 0)) ≡ true)
+    skipped = skip_says s (columns_of s) x.kind x.start x.len (this_fits s (Defines 0) at room.ahead x e) skip.0
 
-      pub target_inside : b + 1 < length s
-      target_inside = let f = found s at r k b m n e q in let i = f.inside in let j = f.body in let y = skipped.0 in omega arith
+    pub target_inside : x.start + 1 < length s
+    target_inside = let f = found s at x e in let i = f.inside in let j = f.body in let y = skipped.0 in omega arith
 
-      -- no list in memory is so long that an index into it would not fit
-      pub target_fits : length s * 1 < 2 ^ 63 → Fits w64 (b + 1)
-      target_fits h = let a = target_inside in record { fits = omega arith }
+    -- no list in memory is so long that an index into it would not fit
+    pub target_fits : length s * 1 < 2 ^ 63 → Fits w64 (x.start + 1)
+    target_fits h = let a = target_inside in record { fits = omega arith }
 
-      pub skip_inside : b < length s
-      skip_inside = omega (arith, target_inside)
+    pub skip_inside : x.start < length s
+    skip_inside = omega (arith, target_inside)
 
-      pub measures_room : MeasuresRoom s n measures₀
-      measures_room = record { ahead = skip.1; long = room.long }
+    pub measures_room : MeasuresRoom s x.next measures₀
+    measures_room = record { ahead = skip.1; long = room.long }
 
-      -- the skip is the first of its kind from here on
-      the_skip : record_of k b m ≡ first_of_kind 4 (records_at s at)
-      the_skip = sym (ap (first_of_kind 4) (read_more s at r k b m n e q) ∙ this_first s k b m (records_at s n) 4 skip.0)
+    -- the skip is the first of its kind from here on
+    the_skip : record_of x.kind x.start x.len ≡ first_of_kind 4 (records_at s at)
+    the_skip = sym (ap (first_of_kind 4) (read_more s at x e) ∙ this_first s x.kind x.start x.len (records_at s x.next) 4 skip.0)
 
-      second-byte : get_or s (b + 1) 0 ≡ field s (record_of k b m) 1
-      unfolding field
-      second-byte = refl
+    second-byte : get_or s (x.start + 1) 0 ≡ field s (record_of x.kind x.start x.len) 1
+    unfolding field
+    second-byte = refl
 
-      pub tail-is : (mode : ℕ) → mode ≡ get_or s b 0 → (target : ℕ) → target ≡ get_or s (b + 1) 0 → (measures : List ℕ) (count : ℕ) → PutMeasures s n measures₀ measures count
-          → TailOf s at measures₀ measures (record { skip = mode; target = target; measures = count })
-      tail-is mode em target et measures count p =
-          let y = skipped.1 in
-          record {
-            long = p.long;
-            skip = em ∙ sym (field-first s k b m) ∙ ap (λ (x : Record). field s x 0) the_skip;
-            mode = omega arith;
-            target = et ∙ second-byte ∙ ap (λ (x : Record). field s x 1) the_skip;
-            lettered = ap (λ (c : ℕ). eqb c 0 || is_letter c) et ∙ skipped.2;
-            is = p.is ∙ sym (ap (measures_from s) (read_more s at r k b m n e q) ∙ other-measures s k b m (records_at s n) (λ w. let z = skip.0 in omega arith));
-            few = p.few;
-            fit = p.fit;
-            rest = p.rest;
-          }
+    pub tail-is : (mode : ℕ) → mode ≡ get_or s x.start 0 → (target : ℕ) → target ≡ get_or s (x.start + 1) 0 → (measures : List ℕ) (count : ℕ) → PutMeasures s x.next measures₀ measures count
+        → TailOf s at measures₀ measures (record { skip = mode; target = target; measures = count })
+    tail-is mode em target et measures count p =
+        let y = skipped.1 in
+        record {
+          long = p.long;
+          skip = em ∙ sym (field-first s x.kind x.start x.len) ∙ ap (λ (x : Record). field s x 0) the_skip;
+          mode = omega arith;
+          target = et ∙ second-byte ∙ ap (λ (x : Record). field s x 1) the_skip;
+          lettered = ap (λ (c : ℕ). eqb c 0 || is_letter c) et ∙ skipped.2;
+          is = p.is ∙ sym (ap (measures_from s) (read_more s at x e) ∙ other-measures s x.kind x.start x.len (records_at s x.next) (λ w. let z = skip.0 in omega arith));
+          few = p.few;
+          fit = p.fit;
+          rest = p.rest;
+        }
 
 -- ---- all
 

@@ -4,6 +4,7 @@ use Rattle.rules.specs.Basics.{is_letter}
 use Rattle.rules.specs.Query.{records, field, first_of_kind, columns_of, defined, text_of, condition_from, measures_from}
 use Rattle.records.specs.Read.{records_at}
 use Rattle.query.specs.Ahead.{Ahead}
+use Rattle.query.specs.declared.Stage.TheVariants.{Defines}
 use Rattle.measure_list.specs.Measures.{MeasureFits}
 use Rattle.table.specs.Measures.{measure_in, measures_in}
 use Rattle.decode.specs.declared.Head.{Head}
@@ -18,7 +19,7 @@ pub record HeadOf (s : List ℕ) (h : Head) : Type 0 where
   pub text : take h.len (drop h.start s) ≡ text_of s
   pub inside : h.start + h.len ≤ length s
   pub short : h.len ≤ 256
-  pub ahead : Ahead s 2 26 h.next
+  pub ahead : Ahead s (Defines 26) h.next
   pub skip : first_of_kind 4 (records_at s h.next) ≡ first_of_kind 4 (records s)
   pub all : defined s (records_at s h.next) ≡ defined s (records s)
   pub letters : (letter : ℕ) → condition_from s (records_at s h.next) letter ≡ condition_from s (records s) letter
@@ -26,7 +27,7 @@ pub record HeadOf (s : List ℕ) (h : Head) : Type 0 where
 
 -- the skip, at this index, and the measures behind it
 pub record TailRoom (s : List ℕ) (at : ℕ) (measures : List ℕ) : Type 0 where
-  pub ahead : Ahead s 2 0 at
+  pub ahead : Ahead s (Defines 0) at
   pub long : length measures ≡ 24
 
 pub record TailOf (s : List ℕ) (at : ℕ) (measures₀ measures : List ℕ) (t : Tail) : Type 0 where

@@ -12,7 +12,7 @@ ghost use Rattle.decode.specs.Steps.{HeadOf, TailRoom, TailOf};
 
 use define_list::put_defines;
 use measure_list::put_measures;
-use records::{Read, byte, record_at};
+use records::{byte, record_at};
 
 // What a query says besides its letters and measures: the columns, where the pattern's text lies,
 // the skip mode, the letter that the skip names (0 for none), how many measures there are, whether
@@ -39,46 +39,22 @@ struct Head {
     next: usize,
 }
 
-// The shape and the text. There is no other way than the last: a query with no answer 1 to 3 is not
-// cut.
+// The shape and the text. A query with no answer 1 to 3 is not cut.
 fn read_head(s: &[u8]) -> Head
     requires { first_answer s.now ≡ 0 }
     ensures { HeadOf s.now result }
 {
-    let Read::Record {
-        kind: _,
-        start: shape,
-        len: _,
-        next: second,
-    } = record_at(s, 0)
-    else {
-        return Head {
-            columns: 0,
-            start: 0,
-            len: 0,
-            next: 0,
-        };
+    let Some(shape) = record_at(s, 0) else {
+        unreachable!()
     };
-    let Read::Record {
-        kind: _,
-        start,
-        len,
-        next,
-    } = record_at(s, second)
-    else {
-        return Head {
-            columns: 0,
-            start: 0,
-            len: 0,
-            next: 0,
-        };
+    let Some(text) = record_at(s, shape.next) else {
+        unreachable!()
     };
-    let columns = byte(s, shape);
     Head {
-        columns,
-        start,
-        len,
-        next,
+        columns: byte(s, shape.start),
+        start: text.start,
+        len: text.len,
+        next: text.next,
     }
 }
 
@@ -95,47 +71,33 @@ fn read_tail(s: &[u8], at: usize, measures: &mut [u8; 24]) -> Tail
     requires { TailRoom s.now at measures.old }
     ensures { TailOf s.now at measures.old measures.new result }
 {
-    let Read::Record {
-        kind: _,
-        start,
-        len: _,
-        next,
-    } = record_at(s, at)
-    else {
-        return Tail {
-            skip: 0,
-            target: 0,
-            measures: 0,
-        };
+    let Some(record) = record_at(s, at) else {
+        unreachable!()
     };
-    let skip = byte(s, start);
-    let target = byte(s, start + 1);
-    let count = put_measures(s, next, measures);
     Tail {
-        skip,
-        target,
-        measures: count,
+        skip: byte(s, record.start),
+        target: byte(s, record.start + 1),
+        measures: put_measures(s, record.next, measures),
     }
 }
 
 // All parts of a query. The records stand in order: the shape and the text, the DEFINEs, the skip
 // and the measures.
+#[tactic(auto, using(crate::proofs::Together::decoded))]
 pub fn decode(s: &[u8], defines: &mut [usize; 26], measures: &mut [u8; 24]) -> Parts
     requires { DecodeRoom s.now measures.old }
     ensures { Decoded s.now measures.old defines.new measures.new result }
 {
-    let h = read_head(s);
-    let next = h.next;
-    let behind = put_defines(s, next, defines);
-    let at = behind.at;
-    let t = read_tail(s, at, measures);
+    let head = read_head(s);
+    let behind = put_defines(s, head.next, defines);
+    let tail = read_tail(s, behind.at, measures);
     Parts {
-        columns: h.columns,
-        start: h.start,
-        len: h.len,
-        skip: t.skip,
-        target: t.target,
-        measures: t.measures,
+        columns: head.columns,
+        start: head.start,
+        len: head.len,
+        skip: tail.skip,
+        target: tail.target,
+        measures: tail.measures,
         twice: behind.twice,
         letters: behind.letters,
     }

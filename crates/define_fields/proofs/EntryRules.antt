@@ -1,13 +1,13 @@
 -- The entries of a DEFINE of kind 6, by the tests in the code: each law is one way through
 -- entry_fits, entries_fit or postfix_fits, with its callees' results as premises.
 use mathlib.Core.Path.{◌≡◌, refl, sym, ap, ◌∙◌}
-use mathlib.Core.Bool.{Bool, true, false, not, ◌&&◌}
+use mathlib.Core.Bool.{Bool, true, false, ◌&&◌}
 use mathlib.Core.List.{List, [], ◌∷◌}
 use Prim.Native.Nat.{ℕ, zero, suc, ◌+◌, ◌-◌, ◌≤◌, ◌<◌}
 use native.Mathlib.Omega.{arith}
 use lib.Dec.{eqb, leb}
 use lib.ListN.{length, get_or}
-use borrow.Author.Tests.{eq-eqb, ne_eqb, eqb-true, eqb-false, le-leb, lt-leb, leb-true, not-true, not-false}
+use borrow.Author.Tests.{eq-eqb, ne_eqb, eqb-true, eqb-false, le-leb, lt-leb, leb-true}
 use Rattle.rules.specs.Basics.{pick, in_range, is_letter}
 use Rattle.rules.specs.Rows.{Entry, compared, conj, disj, neg}
 use Rattle.rules.specs.Query.{field, comparison_at, comparison_fits, entry_bytes, entry_fits, read_entry, entries_fit, entries_end, read_entries, entries_of, leaves_one, postfix_fits}
@@ -157,14 +157,20 @@ after-few tag d = by (eqb tag 0) (eqb tag 3)
 
 -- the loop, by its ways
 module _ (s : List ℕ) (columns stop count p left results at : ℕ) (e : Entered s columns stop count p left results at) where
-  pub entered_all : (t u r : Bool) → left ≤ 0 → t ≡ eqb at stop → u ≡ eqb results 1 → r ≡ (t && u) → r ≡ entries_good s columns stop count 0 p
+  at-end : left ≤ 0 → entries_good s columns stop left results at ≡ (eqb at stop && eqb results 1)
   unfolding entries_good entries_end entries_fit read_entries leaves_one
-  entered_all t u r h et eu er = sym (e.same ∙ by left h (eqb at stop) refl ∙ sym (er ∙ rw (et, eu) refl))
+  at-end h = by left h (eqb at stop) refl
     where
       by : (k : ℕ) → k ≤ 0 → (b : Bool) → eqb at stop ≡ b → entries_good s columns stop k results at ≡ (eqb at stop && eqb results 1)
       by zero z true q = let w : eqb stop at ≡ true = eq-eqb stop at (sym (eqb-true at stop q)) in rw (q, w) refl
       by zero z false q = let w : eqb stop at ≡ false = ne_eqb stop at (λ v. eqb-false at stop q (sym v)) in rw (q, w) refl
       by (suc k) z b q = absurd (omega arith)
+
+  pub entered_all : left ≤ 0 → at ≡ stop → eqb results 1 ≡ entries_good s columns stop count 0 p
+  entered_all h q = sym (e.same ∙ at-end h ∙ ap (λ (t : Bool). t && eqb results 1) (eq-eqb at stop q))
+
+  pub entered-past : left ≤ 0 → (at ≡ stop → ⊥) → eqb at stop ≡ entries_good s columns stop count 0 p
+  entered-past h q = ne_eqb at stop q ∙ sym (e.same ∙ at-end h ∙ ap (λ (t : Bool). t && eqb results 1) (ne_eqb at stop q))
 
   -- where an entry is left
   pub entered-outside : 0 < left → stop ≤ at → false ≡ entries_good s columns stop count 0 p
@@ -181,23 +187,24 @@ module _ (s : List ℕ) (columns stop count p left results at : ℕ) (e : Entere
         let y : stop < entries_end s (left - 1) (at + pick (eqb tag 0) 13 1) = omega (arith, e.upto) in
         sym (e.same ∙ from_one ∙ one_more s columns stop (left - 1) results at tag is ∙ false-and _ _ (ne_eqb stop _ (λ q. omega arith)))
 
-    pub entered-unfit : (r : Bool) → r ≡ entry_fits s columns at → not r ≡ true → false ≡ entries_good s columns stop count 0 p
-    entered-unfit r er n = sym (e.same ∙ from_one ∙ unfit-one s columns stop (left - 1) results at tag is (sym er ∙ not-true r n))
+    pub entered-unfit : (r : Bool) → r ≡ entry_fits s columns at → r ≡ false → false ≡ entries_good s columns stop count 0 p
+    entered-unfit r er n = sym (e.same ∙ from_one ∙ unfit-one s columns stop (left - 1) results at tag is (sym er ∙ n))
 
-    pub entered-short : (r : Bool) → r ≡ entry_fits s columns at → not r ≡ false → (d : ℕ) → d ≡ pick (eqb tag 0) (results + 1) (pick (eqb tag 3) results (results - 1)) → d ≡ 0
+    pub entered-short : (r : Bool) → r ≡ entry_fits s columns at → r ≡ true → (d : ℕ) → d ≡ pick (eqb tag 0) (results + 1) (pick (eqb tag 3) results (results - 1)) → d ≡ 0
         → false ≡ entries_good s columns stop count 0 p
     entered-short r er n d ed z =
-        sym (e.same ∙ from_one ∙ short_one s columns stop (left - 1) results at tag is (fits-tag s columns at tag is (sym er ∙ not-false r n)) (sym ed ∙ z))
+        sym (e.same ∙ from_one ∙ short_one s columns stop (left - 1) results at tag is (fits-tag s columns at tag is (sym er ∙ n)) (sym ed ∙ z))
 
-    pub entered-more : (bytes : ℕ) → bytes ≡ pick (eqb tag 0) 13 1 → bytes ≤ stop - at → (r : Bool) → r ≡ entry_fits s columns at → not r ≡ false
-        → (d : ℕ) → d ≡ pick (eqb tag 0) (results + 1) (pick (eqb tag 3) results (results - 1)) → (d ≡ 0 → ⊥) → Entered s columns stop count p (left - 1) d (at + bytes)
-    entered-more bytes eb l r er n d ed z =
-        let f : entry_fits s columns at ≡ true = sym er ∙ not-false r n in
+    pub entered-more : (left' : ℕ) → left' + 1 ≡ left → (bytes : ℕ) → bytes ≡ pick (eqb tag 0) 13 1 → bytes ≤ stop - at → (r : Bool) → r ≡ entry_fits s columns at → r ≡ true
+        → (d : ℕ) → d ≡ pick (eqb tag 0) (results + 1) (pick (eqb tag 3) results (results - 1)) → (d ≡ 0 → ⊥) → Entered s columns stop count p left' d (at + bytes)
+    entered-more left' el bytes eb l r er n d ed z =
+        let f : entry_fits s columns at ≡ true = sym er ∙ n in
         let w : d ≤ results + 1 = rw ed (after-few tag results) in
+        let i : left - 1 ≡ left' = omega arith in
         record {
           upto = omega (arith, e.upto);
           few = omega (arith, e.few);
-          same = e.same ∙ from_one ∙ good_one s columns stop (left - 1) results at tag is (fits-tag s columns at tag is f) f (λ q. z (ed ∙ q)) ∙ rw (← eb, ← ed) refl;
+          same = e.same ∙ from_one ∙ good_one s columns stop (left - 1) results at tag is (fits-tag s columns at tag is f) f (λ q. z (ed ∙ q)) ∙ rw (i, ← eb, ← ed) refl;
         }
 
 -- the first byte, and the bytes, of the next entry lie in the query
@@ -208,16 +215,13 @@ entry-there s at tag bytes stop is eb l h m = rw (← is, ← eb) (omega arith)
 -- ---- kind 6
 
 module _ (s : List ℕ) (columns b l : ℕ) where
-  pub postfix-short : l < 2 → false ≡ postfix_fits s columns (record_of 6 b l)
+  pub postfix_short : l < 2 → false ≡ postfix_fits s columns (record_of 6 b l)
   unfolding postfix_fits
-  postfix-short h = let z = (entries-behind s (field s (record_of 6 b l) 1) (b + 2)).0 in sym (false-and _ _ (ne_eqb (l + b) _ (λ e. omega arith)))
+  postfix_short h = let z = (entries-behind s (field s (record_of 6 b l) 1) (b + 2)).0 in sym (false-and _ _ (ne_eqb (l + b) _ (λ e. omega arith)))
 
-  pub postfix-is : (x y : ℕ) (t u v w r : Bool) → x ≡ get_or s (b + 1) 0 → y ≡ get_or s b 0 → t ≡ in_range 65 90 y → u ≡ in_range 1 16 x
-      → v ≡ entries_good s columns (b + l) x 0 (b + 2) → w ≡ (u && v) → r ≡ (t && w) → r ≡ postfix_fits s columns (record_of 6 b l)
+  pub postfix_is : postfix_fits s columns (record_of 6 b l) ≡ (is_letter (get_or s b 0) && (in_range 1 16 (get_or s (b + 1) 0) && entries_good s columns (b + l) (get_or s (b + 1) 0) 0 (b + 2)))
   unfolding postfix_fits field is_letter entries_of entries_good
-  postfix-is x y t u v w r ex ey et eu ev ew er =
-      let z : r ≡ (in_range 65 90 y && (in_range 1 16 x && entries_good s columns (b + l) x 0 (b + 2))) = er ∙ rw (et, ew, eu, ev) refl in
-      z ∙ rw (ex, ey, ← field-first s 6 b l, swap) (order (eqb (l + b) (entries_end s (get_or s (b + 1) 0) (b + 2))) (in_range 65 90 (field s (record_of 6 b l) 0)) (in_range 1 16 (get_or s (b + 1) 0)) (entries_fit s columns (get_or s (b + 1) 0) (b + 2) && leaves_one 0 (read_entries s (get_or s (b + 1) 0) (b + 2))))
+  postfix_is = sym (rw (← field-first s 6 b l, swap) (order (eqb (l + b) (entries_end s (get_or s (b + 1) 0) (b + 2))) (in_range 65 90 (field s (record_of 6 b l) 0)) (in_range 1 16 (get_or s (b + 1) 0)) (entries_fit s columns (get_or s (b + 1) 0) (b + 2) && leaves_one 0 (read_entries s (get_or s (b + 1) 0) (b + 2)))))
     where
       swap : b + l ≡ l + b
       swap = omega arith

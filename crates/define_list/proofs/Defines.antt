@@ -2,22 +2,23 @@
 -- its condition is that of the records to come; or it is not 0, and then it is the index of the
 -- body of its DEFINE (`Slot`). Twice says how the entries tell of two DEFINEs for one letter.
 use mathlib.Core.Path.{◌≡◌, refl, sym, ap, ◌∙◌}
-use mathlib.Core.Bool.{Bool, true, false, not, ◌&&◌, ◌||◌}
+use mathlib.Core.Bool.{Bool, true, false, ◌&&◌, ◌||◌}
 use mathlib.Core.List.{List, [], ◌∷◌}
 use Prim.Native.Nat.{ℕ, zero, suc, ◌+◌, ◌-◌, ◌≤◌, ◌<◌, max}
 use native.Mathlib.Omega.{arith}
 use lib.Dec.{eqb}
 use lib.ListN.{length, get_or, set, length-set, replicate, length-replicate, get_or-replicate}
 use lib.Seq.{get_or-set_same, get_or-set_other}
-use borrow.Author.Tests.{eq-eqb, ne_eqb, eqb-true, eqb-false, not-true, not-false}
-use Rattle.records.specs.declared.Read.{Read}
-use Rattle.records.specs.declared.Read.TheVariants.{Record as Whole, Cut}
+use borrow.Author.Tests.{eq-eqb, ne_eqb, eqb-true, eqb-false}
+use Rattle.std.specs.Prelude.{Some, None}
+use Rattle.records.specs.declared.Record.{Record as Read}
 use Rattle.rules.specs.Basics.{pick, keep, le16}
 use Rattle.rules.specs.Rows.{all_of}
 use Rattle.rules.specs.Query.{Record, record_at, kinds, one_of, some_of, none_left, is_define, is_measure, field, first_of_kind, columns_of, defined, comparisons_of, entries_of, condition_of, condition_from, measures_from}
 use Rattle.laws.proofs.Truths.{entries-behind}
 use Rattle.laws.proofs.Choice.{decided, clash, and_left, and_right}
 use Rattle.records.specs.Read.{record_of, records_at, read_at}
+use Rattle.query.specs.declared.Stage.TheVariants.{Defines}
 use Rattle.query.specs.Order.{rest_of}
 use Rattle.records.proofs.Reading.{found, read_more, field-first}
 use Rattle.define_list.specs.Defines.{comparisons_at, kind_at, defined_at, Body}
@@ -25,18 +26,6 @@ use Rattle.query.specs.Ahead.{Ahead}
 use Rattle.define_list.specs.Defines.{DefineRoom, PutDefine, DefinesRoom, PutDefines}
 use Rattle.query.proofs.Going.{before-end, not-cut, this_fits, define_next, defines-over, Says, define_says, SaysEntries, postfix-says}
 use Rattle.define_list.proofs.Twice.{Twice, twice-none, twice-more, twice-over}
-
--- ---- one DEFINE, by the ways through `put_define`
-
-module _ (s : List ℕ) (start : ℕ) (defines : List ℕ) (x : ℕ) (ex : x ≡ get_or s start 0) where
-  same-entry : get_or defines (x - 65) 0 ≡ get_or defines (get_or s start 0 - 65) 0
-  same-entry = ap (λ (i : ℕ). get_or defines (i - 65) 0) ex
-
-  pub define_taken : (get_or defines (x - 65) 0 ≡ 0 → ⊥) → PutDefine s start defines defines true
-  define_taken f = record { taken = λ g. (refl, refl); put = λ e. absurd (f (same-entry ∙ e)) }
-
-  pub define_put : get_or defines (x - 65) 0 ≡ 0 → PutDefine s start defines (set defines (x - 65) start) false
-  define_put e = record { taken = λ f. absurd (f (sym same-entry ∙ e)); put = λ f. (ap (λ (i : ℕ). set defines (i - 65) start) ex, refl) }
 
 -- ---- a letter's condition, by the record in front
 
@@ -98,7 +87,7 @@ module _ (s : List ℕ) where
   skip_only (r ∷ rs) e =
       not-define r rs (other-kind r.kind 4 (eqb-true r.kind 4 (and_left (eqb r.kind 4) _ e)) (λ z. omega arith) (λ z. omega arith)) ∙ measures_only 8 rs (and_right (eqb r.kind 4) _ e)
 
-  over : (at : ℕ) → Ahead s 2 0 at → defined s (records_at s at) ≡ []
+  over : (at : ℕ) → Ahead s (Defines 0) at → defined s (records_at s at) ≡ []
   unfolding rest_of some_of
   over at h = skip_only (records_at s at) h.order
 
@@ -128,7 +117,7 @@ record Lettered (s : List ℕ) (b : ℕ) : Type 0 where
 
 pub record Lettering (s : List ℕ) (from : ℕ) (defines : List ℕ) (at : ℕ) (twice : Bool) (letters : ℕ) : Type 0 where
   pub left : ℕ
-  pub ahead : Ahead s 2 left at
+  pub ahead : Ahead s (Defines left) at
   pub counted : length defines ≡ 26
   pub skip : first_of_kind 4 (records_at s at) ≡ first_of_kind 4 (records_at s from)
   pub measures : measures_from s (records_at s at) ≡ measures_from s (records_at s from)
@@ -163,179 +152,174 @@ module _ (s : List ℕ) (from : ℕ) where
 
   module _ (defines : List ℕ) (at : ℕ) (twice : Bool) (letters : ℕ) (h : Lettering s from defines at twice letters) where
     lettering_inside : at < length s
-    lettering_inside = before-end s 2 h.left at h.ahead (λ e. omega arith)
+    lettering_inside = before-end s (Defines h.left) at h.ahead (λ e. omega arith)
 
     -- the skip is still to come
     pub lettering_end : length s ≤ at → PutDefines s from defines (record { at = at; twice = twice; letters = letters })
     lettering_end w = absurd (let z = lettering_inside in omega arith)
 
-    module _ (r : Read) (e : r ≡ read_at s at) where
-      pub lettering_cut : r ≡ Cut → PutDefines s from defines (record { at = at; twice = twice; letters = letters })
-      lettering_cut q = absurd (not-cut s 2 h.left at h.ahead r (λ w. omega arith) e q)
+    pub lettering_cut : None ≡ read_at s at → PutDefines s from defines (record { at = at; twice = twice; letters = letters })
+    lettering_cut e = absurd (not-cut s (Defines h.left) at h.ahead (λ w. omega arith) e)
 
-      module _ (k b m n : ℕ) (q : r ≡ Whole k b m n) where
-        says : k ≡ 3 → Says s (columns_of s) b m
-        says k3 = define_says s (columns_of s) k b m (this_fits s 2 h.left at h.ahead r k b m n e q) k3
+    module _ (x : Read) (e : Some x ≡ read_at s at) where
+      says : x.kind ≡ 3 → Says s (columns_of s) x.start x.len
+      says k3 = define_says s (columns_of s) x.kind x.start x.len (this_fits s (Defines h.left) at h.ahead x e) k3
 
-        says-6 : k ≡ 6 → SaysEntries s (columns_of s) b m
-        says-6 k6 = postfix-says s (columns_of s) k b m (this_fits s 2 h.left at h.ahead r k b m n e q) k6
+      says-6 : x.kind ≡ 6 → SaysEntries s (columns_of s) x.start x.len
+      says-6 k6 = postfix-says s (columns_of s) x.kind x.start x.len (this_fits s (Defines h.left) at h.ahead x e) k6
 
-        -- its letter, and that its count stands there
-        lettered : is_define k ≡ true → Lettered s b
-        lettered dk =
-            let f = found s at r k b m n e q in
-            let i = f.inside in
-            let j = f.body in
-            by_kind k dk
-            (λ k3. let y = says k3 in let g = y.long in record { there = omega arith; low = y.low; high = y.high })
-            (λ k6. let y = says-6 k6 in
-            let g = y.ends in
-            let z = (entries-behind s (get_or s (b + 1) 0) (b + 2)).0 in
-            record { there = omega arith; low = y.low; high = y.high })
+      -- its letter, and that its count stands there
+      lettered : is_define x.kind ≡ true → Lettered s x.start
+      lettered dk =
+          let f = found s at x e in
+          let i = f.inside in
+          let j = f.body in
+          by_kind x.kind dk
+          (λ k3. let y = says k3 in let g = y.long in record { there = omega arith; low = y.low; high = y.high })
+          (λ k6. let y = says-6 k6 in
+          let g = y.ends in
+          let z = (entries-behind s (get_or s (x.start + 1) 0) (x.start + 2)).0 in
+          record { there = omega arith; low = y.low; high = y.high })
 
-        pub lettering_room : (t : Bool) → t ≡ is_define k → not t ≡ false → DefineRoom s b
-        lettering_room t et nt = let y = lettered (sym et ∙ not-false t nt) in let z = y.there in record { there = omega arith; low = y.low; high = y.high }
+      pub lettering_room : is_define x.kind ≡ true → DefineRoom s x.start
+      lettering_room dk = let y = lettered dk in let z = y.there in record { there = omega arith; low = y.low; high = y.high }
 
-        -- a header stands before the body
-        not_first : 0 < b
-        unfolding record_at
-        not_first = let z : at + 4 ≡ b = ap (λ (x : Record). x.start) (found s at r k b m n e q).that in omega arith
+      -- a header stands before the body
+      not_first : 0 < x.start
+      unfolding record_at
+      not_first = let z : at + 4 ≡ x.start = ap (λ (x : Record). x.start) (found s at x e).that in omega arith
 
-        far_on : 4 ≤ b
-        unfolding record_at
-        far_on = let z : at + 4 ≡ b = ap (λ (x : Record). x.start) (found s at r k b m n e q).that in omega arith
+      far_on : 4 ≤ x.start
+      unfolding record_at
+      far_on = let z : at + 4 ≡ x.start = ap (λ (x : Record). x.start) (found s at x e).that in omega arith
 
-        kind_here : kind_at s b ≡ k
-        unfolding record_at kind_at
-        kind_here =
-            let z : at + 4 ≡ b = ap (λ (x : Record). x.start) (found s at r k b m n e q).that in
-            ap (le16 s) (let i : b - 2 ≡ at + 2 = omega arith in i) ∙ ap (λ (x : Record). x.kind) (found s at r k b m n e q).that
+      kind_here : kind_at s x.start ≡ x.kind
+      unfolding record_at kind_at
+      kind_here =
+          let z : at + 4 ≡ x.start = ap (λ (x : Record). x.start) (found s at x e).that in
+          ap (le16 s) (let i : x.start - 2 ≡ at + 2 = omega arith in i) ∙ ap (λ (x : Record). x.kind) (found s at x e).that
 
-        -- its body, by its kind
-        body-here : is_define k ≡ true → Body s (columns_of s) b
-        body-here dk =
-            let f = found s at r k b m n e q in
-            let i = f.inside in
-            let j = f.body in
-            record {
-              header = far_on;
-              there = (lettered dk).there;
-              all = λ z. let y = says (sym kind_here ∙ z) in let g = y.long in record { one = y.one; few = y.few; stand = record { there = omega arith; fits = y.each } };
-              postfix = λ z. let y = says-6 (by_kind k dk (λ k3. absurd (z (kind_here ∙ k3))) (λ k6. k6)) in
-                  let g = y.ends in
-                  record { one = y.one; few = y.few; entered = record { there = omega arith; fit = y.fit; leaves = y.leaves } };
-            }
+      -- its body, by its kind
+      body-here : is_define x.kind ≡ true → Body s (columns_of s) x.start
+      body-here dk =
+          let f = found s at x e in
+          let i = f.inside in
+          let j = f.body in
+          record {
+            header = far_on;
+            there = (lettered dk).there;
+            all = λ z. let y = says (sym kind_here ∙ z) in let g = y.long in record { one = y.one; few = y.few; stand = record { there = omega arith; fits = y.each } };
+            postfix = λ z. let y = says-6 (by_kind x.kind dk (λ k3. absurd (z (kind_here ∙ k3))) (λ k6. k6)) in
+                let g = y.ends in
+                record { one = y.one; few = y.few; entered = record { there = omega arith; fit = y.fit; leaves = y.leaves } };
+          }
 
-        fewer_left : records_at s at ≡ record_of k b m ∷ records_at s n
-        fewer_left = read_more s at r k b m n e q
+      fewer_left : records_at s at ≡ record_of x.kind x.start x.len ∷ records_at s x.next
+      fewer_left = read_more s at x e
 
-        rest-other : (l : ℕ) → is_define k ≡ true → (get_or s b 0 ≡ 65 + l → ⊥) → condition_from s (records_at s n) (65 + l) ≡ condition_from s (records_at s at) (65 + l)
-        rest-other l dk f = sym (ap (λ (x : List Record). condition_from s x (65 + l)) fewer_left ∙ another s k b m (records_at s n) (65 + l) dk f)
+      rest-other : (l : ℕ) → is_define x.kind ≡ true → (get_or s x.start 0 ≡ 65 + l → ⊥) → condition_from s (records_at s x.next) (65 + l) ≡ condition_from s (records_at s at) (65 + l)
+      rest-other l dk f = sym (ap (λ (x : List Record). condition_from s x (65 + l)) fewer_left ∙ another s x.kind x.start x.len (records_at s x.next) (65 + l) dk f)
 
-        module _ (dk : is_define k ≡ true) (defines' : List ℕ) (before : Bool) (d : PutDefine s b defines defines' before) where
-          letter : ℕ
-          letter = get_or s b 0 - 65
+      module _ (dk : is_define x.kind ≡ true) (defines' : List ℕ) (before : Bool) (d : PutDefine s x.start defines defines' before) where
+        letter : ℕ
+        letter = get_or s x.start 0 - 65
 
-          letter-is : 65 + letter ≡ get_or s b 0
+        letter-is : 65 + letter ≡ get_or s x.start 0
+        unfolding letter
+        letter-is = let y = (lettered dk).low in omega arith
+
+        letter-low : letter < 26
+        unfolding letter
+        letter-low = let y = (lettered dk).high in let z = (lettered dk).low in omega arith
+
+        -- its entry is taken already
+        slot-taken : (get_or defines letter 0 ≡ 0 → ⊥) → (l : ℕ) → l < 26 → Slot s from x.next l (get_or defines' l 0)
+        unfolding letter
+        slot-taken c0 l w =
+            let o = h.each l w in
+            rw (d.taken c0).0 (record {
+              open' = λ z. rest-other l dk (λ f. c0 (ap (λ (i : ℕ). get_or defines i 0) (let i : get_or s x.start 0 - 65 ≡ l = omega arith in i) ∙ z)) ∙ o.open' z;
+              shut = o.shut;
+              body = o.body;
+            })
+
+        -- its entry is free
+        module _ (c0 : get_or defines letter 0 ≡ 0) where
+          defines-are : defines' ≡ set defines letter x.start
           unfolding letter
-          letter-is = let y = (lettered dk).low in omega arith
+          defines-are = (d.put c0).0
 
-          letter-low : letter < 26
-          unfolding letter
-          letter-low = let y = (lettered dk).high in let z = (lettered dk).low in omega arith
+          slot_same : Slot s from x.next letter (get_or defines' letter 0)
+          slot_same =
+              let o = h.each letter letter-low in
+              let ll = h.counted in
+              let il = letter-low in
+              let f = found s at x e in
+              let b0 = not_first in
+              let c1 : get_or defines' letter 0 ≡ x.start = ap (λ (x : List ℕ). get_or x letter 0) defines-are ∙ get_or-set_same defines letter x.start 0 (omega arith) in
+              rw c1 (record {
+                open' = λ z. absurd (omega arith);
+                shut = λ z. defined-here s x.kind x.start x.len b0 kind_here ∙ sym (its_own s x.kind x.start x.len (records_at s x.next) (65 + letter) dk (sym letter-is))
+                    ∙ sym (ap (λ (x : List Record). condition_from s x (65 + letter)) fewer_left) ∙ o.open' c0;
+                body = λ z. body-here dk;
+              })
 
-          -- its entry is taken already
-          slot-taken : (get_or defines letter 0 ≡ 0 → ⊥) → (l : ℕ) → l < 26 → Slot s from n l (get_or defines' l 0)
-          unfolding letter
-          slot-taken c0 l w =
+          slot-other : (l : ℕ) → l < 26 → (l ≡ letter → ⊥) → Slot s from x.next l (get_or defines' l 0)
+          slot-other l w f =
               let o = h.each l w in
-              rw (d.taken c0).0 (record {
-                open' = λ z. rest-other l dk (λ f. c0 (ap (λ (i : ℕ). get_or defines i 0) (let i : get_or s b 0 - 65 ≡ l = omega arith in i) ∙ z)) ∙ o.open' z;
+              let c1 : get_or defines' l 0 ≡ get_or defines l 0 = ap (λ (x : List ℕ). get_or x l 0) defines-are ∙ get_or-set_other defines letter l x.start 0 f in
+              rw c1 (record {
+                open' = λ z. rest-other l dk (λ g. f (let i = letter-is in omega arith)) ∙ o.open' z;
                 shut = o.shut;
                 body = o.body;
               })
 
-          -- its entry is free
-          module _ (c0 : get_or defines letter 0 ≡ 0) where
-            defines-are : defines' ≡ set defines letter b
-            unfolding letter
-            defines-are = (d.put c0).0
+        by-entry : {A : Type 0} → ((get_or defines letter 0 ≡ 0 → ⊥) → A) → (get_or defines letter 0 ≡ 0 → A) → A
+        by-entry f g = decided (eqb (get_or defines letter 0) 0) (λ t. g (eqb-true (get_or defines letter 0) 0 t)) (λ t. f (eqb-false (get_or defines letter 0) 0 t))
 
-            slot_same : Slot s from n letter (get_or defines' letter 0)
-            slot_same =
-                let o = h.each letter letter-low in
-                let ll = h.counted in
-                let il = letter-low in
-                let f = found s at r k b m n e q in
-                let b0 = not_first in
-                let c1 : get_or defines' letter 0 ≡ b = ap (λ (x : List ℕ). get_or x letter 0) defines-are ∙ get_or-set_same defines letter b 0 (omega arith) in
-                rw c1 (record {
-                  open' = λ z. absurd (omega arith);
-                  shut = λ z. defined-here s k b m b0 kind_here ∙ sym (its_own s k b m (records_at s n) (65 + letter) dk (sym letter-is))
-                      ∙ sym (ap (λ (x : List Record). condition_from s x (65 + letter)) fewer_left) ∙ o.open' c0;
-                  body = λ z. body-here dk;
-                })
+        counted-on : length defines' ≡ 26
+        unfolding letter
+        counted-on = by-entry (λ f. ap length (d.taken f).0 ∙ h.counted) (λ f. ap length (d.put f).0 ∙ length-set defines letter x.start ∙ h.counted)
 
-            slot-other : (l : ℕ) → l < 26 → (l ≡ letter → ⊥) → Slot s from n l (get_or defines' l 0)
-            slot-other l w f =
-                let o = h.each l w in
-                let c1 : get_or defines' l 0 ≡ get_or defines l 0 = ap (λ (x : List ℕ). get_or x l 0) defines-are ∙ get_or-set_other defines letter l b 0 f in
-                rw c1 (record {
-                  open' = λ z. rest-other l dk (λ g. f (let i = letter-is in omega arith)) ∙ o.open' z;
-                  shut = o.shut;
-                  body = o.body;
-                })
+        -- no entry is taken behind the largest letter
+        free_on : (letters' : ℕ) → letters' ≡ max letters (get_or s x.start 0 - 64) → (l : ℕ) → letters' ≤ l → l < 26 → get_or defines' l 0 ≡ 0
+        unfolding letter
+        free_on letters' el l g w =
+            let low = (lettered dk).low in
+            by-entry (λ f. ap (λ (x : List ℕ). get_or x l 0) (d.taken f).0 ∙ h.free l (omega arith) w)
+            (λ f. ap (λ (x : List ℕ). get_or x l 0) (d.put f).0 ∙ get_or-set_other defines (get_or s x.start 0 - 65) l x.start 0 (λ z. omega arith) ∙ h.free l (omega arith) w)
 
-          by-entry : {A : Type 0} → ((get_or defines letter 0 ≡ 0 → ⊥) → A) → (get_or defines letter 0 ≡ 0 → A) → A
-          by-entry f g = decided (eqb (get_or defines letter 0) 0) (λ t. g (eqb-true (get_or defines letter 0) 0 t)) (λ t. f (eqb-false (get_or defines letter 0) 0 t))
+        pub lettering_more : (twice' : Bool) (letters' : ℕ) → twice' ≡ (twice || before) → letters' ≡ max letters (get_or s x.start 0 - 64) → Lettering s from defines' x.next twice' letters'
+        lettering_more twice' letters' et el = record {
+          left = h.left - 1;
+          ahead = define_next s at x e h.left h.ahead dk;
+          counted = counted-on;
+          skip = sym (ap (first_of_kind 4) fewer_left ∙ skip_front s x.kind x.start x.len (records_at s x.next) 0 dk) ∙ h.skip;
+          measures = sym (ap (measures_from s) fewer_left ∙ measures_front s x.kind x.start x.len (records_at s x.next) 0 dk) ∙ h.measures;
+          each = λ l w. by-entry
+              (λ f. slot-taken f l w)
+              (λ f. decided (eqb l letter) (λ t. let y = eqb-true l letter t in rw y (slot_same f)) (λ t. slot-other f l w (eqb-false l letter t)));
+          told = twice-more s defines at x e dk (lettered dk).low (lettered dk).high not_first h.counted defines' before twice twice' d et h.told;
+          upto = let y = (lettered dk).high in let z = h.upto in omega arith;
+          free = free_on letters' el;
+        }
 
-          counted-on : length defines' ≡ 26
-          unfolding letter
-          counted-on = by-entry (λ f. ap length (d.taken f).0 ∙ h.counted) (λ f. ap length (d.put f).0 ∙ length-set defines letter b ∙ h.counted)
-
-          -- no entry is taken behind the largest letter
-          free_on : (letters' : ℕ) → letters' ≡ max letters (get_or s b 0 - 64) → (l : ℕ) → letters' ≤ l → l < 26 → get_or defines' l 0 ≡ 0
-          unfolding letter
-          free_on letters' el l g w =
-              let low = (lettered dk).low in
-              by-entry (λ f. ap (λ (x : List ℕ). get_or x l 0) (d.taken f).0 ∙ h.free l (omega arith) w)
-              (λ f. ap (λ (x : List ℕ). get_or x l 0) (d.put f).0 ∙ get_or-set_other defines (get_or s b 0 - 65) l b 0 (λ z. omega arith) ∙ h.free l (omega arith) w)
-
-          lettered-more : (twice' : Bool) (letters' : ℕ) → twice' ≡ (twice || before) → letters' ≡ max letters (get_or s b 0 - 64) → Lettering s from defines' n twice' letters'
-          lettered-more twice' letters' et el = record {
-            left = h.left - 1;
-            ahead = define_next s 2 h.left at h.ahead r k b m n e q refl dk;
-            counted = counted-on;
-            skip = sym (ap (first_of_kind 4) fewer_left ∙ skip_front s k b m (records_at s n) 0 dk) ∙ h.skip;
-            measures = sym (ap (measures_from s) fewer_left ∙ measures_front s k b m (records_at s n) 0 dk) ∙ h.measures;
-            each = λ l w. by-entry
-                (λ f. slot-taken f l w)
-                (λ f. decided (eqb l letter) (λ t. let y = eqb-true l letter t in rw y (slot_same f)) (λ t. slot-other f l w (eqb-false l letter t)));
-            told = twice-more s defines at r k b m n e q dk (lettered dk).low (lettered dk).high not_first h.counted defines' before twice twice' d et h.told;
-            upto = let y = (lettered dk).high in let z = h.upto in omega arith;
-            free = free_on letters' el;
+      -- the DEFINEs are over
+      pub lettering_over : is_define x.kind ≡ false → PutDefines s from defines (record { at = at; twice = twice; letters = letters })
+      lettering_over dk =
+          let a = defines-over s at x e h.left h.ahead dk in
+          record {
+            counted = h.counted;
+            ahead = a;
+            skip = h.skip;
+            measures = h.measures;
+            letters = λ l w. let o = h.each l w in record {
+              is = decided (eqb (get_or defines l 0) 0)
+                  (λ t. let z = eqb-true (get_or defines l 0) 0 t in not-defined s (get_or defines l 0) z ∙ sym (nothing s (65 + l) (records_at s at) (over s at a)) ∙ o.open' z)
+                  (λ t. o.shut (eqb-false (get_or defines l 0) 0 t));
+              body = o.body;
+            };
+            doubled = twice-over s defines at twice h.told (over s at a);
+            upto = h.upto;
+            free = h.free;
           }
-
-        pub lettering_more : (t : Bool) → t ≡ is_define k → not t ≡ false → (defines' : List ℕ) (before : Bool) → PutDefine s b defines defines' before
-            → (twice' : Bool) (letters' : ℕ) → twice' ≡ (twice || before) → letters' ≡ max letters (get_or s b 0 - 64) → Lettering s from defines' n twice' letters'
-        lettering_more t et nt defines' before d = lettered-more (sym et ∙ not-false t nt) defines' before d
-
-        -- the DEFINEs are over
-        pub lettering_over : (t : Bool) → t ≡ is_define k → not t ≡ true → PutDefines s from defines (record { at = at; twice = twice; letters = letters })
-        lettering_over t et nt =
-            let a = defines-over s 2 h.left at h.ahead r k b m n e q refl (sym et ∙ not-true t nt) in
-            record {
-              counted = h.counted;
-              ahead = a;
-              skip = h.skip;
-              measures = h.measures;
-              letters = λ l w. let o = h.each l w in record {
-                is = decided (eqb (get_or defines l 0) 0)
-                    (λ t. let z = eqb-true (get_or defines l 0) 0 t in not-defined s (get_or defines l 0) z ∙ sym (nothing s (65 + l) (records_at s at) (over s at a)) ∙ o.open' z)
-                    (λ t. o.shut (eqb-false (get_or defines l 0) 0 t));
-                body = o.body;
-              };
-              doubled = twice-over s defines at twice h.told (over s at a);
-              upto = h.upto;
-              free = h.free;
-            }

@@ -10,8 +10,8 @@ use lib.Dec.{eqb, leb}
 use lib.ListN.{length, get_or, set, replicate}
 use lib.Seq.{get_or-set_same, get_or-set_other}
 use borrow.Author.Tests.{eq-eqb, ne_eqb, eqb-true, eqb-false, le-leb, leb-true}
-use Rattle.records.specs.declared.Read.{Read}
-use Rattle.records.specs.declared.Read.TheVariants.{Record as Whole}
+use Rattle.std.specs.Prelude.{Some}
+use Rattle.records.specs.declared.Record.{Record as Read}
 use Rattle.rules.specs.Basics.{pick, keep, has, repeats}
 use Rattle.rules.specs.Query.{field, records, is_define, defined, doubled}
 use Rattle.laws.proofs.Choice.{decided}
@@ -129,11 +129,11 @@ module _ (s : List ℕ) where
   twice-over defines at twice h e = sym (or-false twice) ∙ ap (λ (xs : List ℕ). twice || again defines xs) (sym e) ∙ h.same
 
   -- the letter of the DEFINE in front
-  in_front : (at : ℕ) (r : Read) (k b m n : ℕ) → r ≡ read_at s at → r ≡ Whole k b m n → is_define k ≡ true → defined s (records_at s at) ≡ get_or s b 0 ∷ defined s (records_at s n)
+  in_front : (at : ℕ) (x : Read) → Some x ≡ read_at s at → is_define x.kind ≡ true → defined s (records_at s at) ≡ get_or s x.start 0 ∷ defined s (records_at s x.next)
   unfolding defined
-  in_front at r k b m n e q dk =
-      ap (defined s) (read_more s at r k b m n e q) ∙ ap (λ (t : Bool). keep t (field s (record_of k b m) 0) (defined s (records_at s n))) dk
-      ∙ ap (λ (x : ℕ). x ∷ defined s (records_at s n)) (field-first s k b m)
+  in_front at x e dk =
+      ap (defined s) (read_more s at x e) ∙ ap (λ (t : Bool). keep t (field s (record_of x.kind x.start x.len) 0) (defined s (records_at s x.next))) dk
+      ∙ ap (λ (y : ℕ). y ∷ defined s (records_at s x.next)) (field-first s x.kind x.start x.len)
 
   -- what `put_define` tells
   again-put : (defines defines' : List ℕ) (b : ℕ) (before : Bool) (xs : List ℕ) → 65 ≤ get_or s b 0 → get_or s b 0 ≤ 90 → 0 < b → length defines ≡ 26 → PutDefine s b defines defines' before
@@ -146,11 +146,11 @@ module _ (s : List ℕ) where
       (λ t. let c0 = eqb-false (get_or defines (get_or s b 0 - 65) 0) 0 t in
       rw (d.taken c0).1 (again-taken defines (get_or s b 0) low xs (is-taken defines (get_or s b 0) low c0)))
 
-  pub twice-more : (defines : List ℕ) (at : ℕ) (r : Read) (k b m n : ℕ) → r ≡ read_at s at → r ≡ Whole k b m n → is_define k ≡ true → 65 ≤ get_or s b 0 → get_or s b 0 ≤ 90 → 0 < b → length defines ≡ 26
-      → (defines' : List ℕ) (before twice twice' : Bool) → PutDefine s b defines defines' before → twice' ≡ (twice || before) → Twice s defines at twice → Twice s defines' n twice'
-  twice-more defines at r k b m n e q dk low high b0 long defines' before twice twice' d et h = record {
+  pub twice-more : (defines : List ℕ) (at : ℕ) (x : Read) → Some x ≡ read_at s at → is_define x.kind ≡ true → 65 ≤ get_or s x.start 0 → get_or s x.start 0 ≤ 90 → 0 < x.start → length defines ≡ 26
+      → (defines' : List ℕ) (before twice twice' : Bool) → PutDefine s x.start defines defines' before → twice' ≡ (twice || before) → Twice s defines at twice → Twice s defines' x.next twice'
+  twice-more defines at x e dk low high b0 long defines' before twice twice' d et h = record {
     same =
-        ap (λ (u : Bool). u || again defines' (defined s (records_at s n))) et ∙ or_assoc twice before (again defines' (defined s (records_at s n)))
-        ∙ ap (λ (u : Bool). twice || u) (sym (again-put defines defines' b before (defined s (records_at s n)) low high b0 long d))
-        ∙ ap (λ (xs : List ℕ). twice || again defines xs) (sym (in_front at r k b m n e q dk)) ∙ h.same;
+        ap (λ (u : Bool). u || again defines' (defined s (records_at s x.next))) et ∙ or_assoc twice before (again defines' (defined s (records_at s x.next)))
+        ∙ ap (λ (u : Bool). twice || u) (sym (again-put defines defines' x.start before (defined s (records_at s x.next)) low high b0 long d))
+        ∙ ap (λ (xs : List ℕ). twice || again defines xs) (sym (in_front at x e dk)) ∙ h.same;
   }

@@ -11,6 +11,7 @@ use Rattle.rules.specs.Rows.{Comparison, Condition, all_of, postfix}
 use Rattle.rules.specs.Query.{comparison_at, comparison_fits, entries_fit, entries_end, read_entries, leaves_one, records, first_of_kind, columns_of, defined, doubled, condition_from, measures_from}
 use Rattle.records.specs.Read.{records_at}
 use Rattle.query.specs.Ahead.{Ahead}
+use Rattle.query.specs.declared.Stage.TheVariants.{Defines}
 use Rattle.define_list.specs.declared.Behind.{Behind}
 
 -- `count` comparisons in the bytes from index p on, 12 for each
@@ -79,13 +80,13 @@ pub record PutDefine (s : List ℕ) (start : ℕ) (defines₀ defines : List ℕ
 
 -- all DEFINEs, from an index on: they are those of the query
 pub record DefinesRoom (s : List ℕ) (from : ℕ) : Type 0 where
-  pub ahead : Ahead s 2 26 from
+  pub ahead : Ahead s (Defines 26) from
   pub all : defined s (records_at s from) ≡ defined s (records s)
 
 -- behind them stands the skip
 pub record PutDefines (s : List ℕ) (from : ℕ) (defines : List ℕ) (r : Behind) : Type 0 where
   pub counted : length defines ≡ 26
-  pub ahead : Ahead s 2 0 r.at
+  pub ahead : Ahead s (Defines 0) r.at
   pub skip : first_of_kind 4 (records_at s r.at) ≡ first_of_kind 4 (records_at s from)
   pub measures : measures_from s (records_at s r.at) ≡ measures_from s (records_at s from)
   pub letters : (l : ℕ) → l < 26 → Letter s (columns_of s) (get_or defines l 0) (condition_from s (records_at s from) (65 + l))

@@ -3,10 +3,9 @@
 // query comes here with no answer 1 to 3. What the lent array holds afterwards: specs/Defines, `PutDefines`.
 #![tactic(auto)]
 
-ghost use Rattle.std.specs.Prelude.{◌≡◌, ◌||◌, ◌-◌, max, get_or};
 ghost use Rattle.define_list.specs.Defines.{DefineRoom, PutDefine, DefinesRoom, PutDefines};
 
-use records::{Read, byte, is_define, record_at};
+use records::{byte, is_define, record_at};
 
 // The DEFINE whose body starts at this index; answers whether its letter had one before. The first
 // DEFINE of a letter counts.
@@ -14,30 +13,12 @@ fn put_define(s: &[u8], start: usize, defines: &mut [usize; 26]) -> bool
     requires { DefineRoom s.now start }
     ensures { PutDefine s.now start defines.old defines.new result }
 {
-    let l = byte(s, start) - 65;
-    if defines[l] != 0 {
+    let letter = byte(s, start) - 65;
+    if defines[letter] != 0 {
         return true;
     }
-    defines[l] = start;
+    defines[letter] = start;
     false
-}
-
-fn either(a: bool, b: bool) -> bool
-    ensures { result ≡ (a || b) }
-{
-    a | b
-}
-
-// The larger of a number and that behind the letter of the DEFINE whose body starts at this index.
-fn past(s: &[u8], start: usize, letters: usize) -> usize
-    requires { DefineRoom s.now start }
-    ensures { result ≡ max letters (get_or s.now start 0 - 64) }
-{
-    let behind = byte(s, start) - 64;
-    if letters < behind {
-        return behind;
-    }
-    letters
 }
 
 // What the pass over the DEFINEs finds: the index of the skip behind them, whether two of them are
@@ -55,27 +36,20 @@ pub fn put_defines(s: &[u8], from: usize, defines: &mut [usize; 26]) -> Behind
     requires { DefinesRoom s.now from }
     ensures { PutDefines s.now from defines.new result }
 {
-    *defines = [0usize; 26];
+    *defines = [0; 26];
     let mut at = from;
     let mut twice = false;
     let mut letters = 0;
     while at < s.len() {
-        let Read::Record {
-            kind,
-            start,
-            len: _,
-            next,
-        } = record_at(s, at)
-        else {
-            return Behind { at, twice, letters };
+        let Some(record) = record_at(s, at) else {
+            break;
         };
-        if !is_define(kind) {
-            return Behind { at, twice, letters };
+        if !is_define(record.kind) {
+            break;
         }
-        let before = put_define(s, start, defines);
-        twice = either(twice, before);
-        letters = past(s, start, letters);
-        at = next;
+        twice |= put_define(s, record.start, defines);
+        letters = letters.max(byte(s, record.start) - 64);
+        at = record.next;
     }
     Behind { at, twice, letters }
 }

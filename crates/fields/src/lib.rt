@@ -8,75 +8,61 @@ ghost use Rattle.rules.specs.Query.{shape_fits, skip_fits, measure_fits, record_
 ghost use Rattle.records.specs.Read.{record_of};
 
 use define_fields::{define_fits, postfix_fits};
-use field_values::{at_most, both, function_fits, same, within};
-use records::byte;
+use field_values::{function_fits, is_letter};
+use records::{Kind, Record, byte};
 
 // Kind 1: columns 1 to 8, a reserved byte.
-fn shape_fits(s: &[u8], start: usize, len: usize) -> bool
-    requires { start + len ≤ length s.now }
-    ensures { result ≡ shape_fits s.now (record_of 1 start len) }
+#[tactic(auto, unfolding(rules::specs::Query::shape_fits, rules::specs::Query::field, rules::specs::Basics::in_range))]
+fn shape_fits(s: &[u8], record: Record) -> bool
+    requires { «record».start + «record».len ≤ length s.now }
+    ensures { result ≡ shape_fits s.now (record_of 1 «record».start «record».len) }
 {
-    if len != 2 {
-        return false;
-    }
-    both(within(1, 8, byte(s, start)), same(byte(s, start + 1), 0))
+    record.len == 2 && (1..=8).contains(&byte(s, record.start)) && byte(s, record.start + 1) == 0
 }
 
 // Kind 4: 0 or 1, and a byte that is 0; or 2 or 3, and a letter.
-fn skip_fits(s: &[u8], start: usize, len: usize) -> bool
-    requires { start + len ≤ length s.now }
-    ensures { result ≡ skip_fits s.now (record_of 4 start len) }
+#[tactic(auto, unfolding(rules::specs::Query::skip_fits, rules::specs::Query::field))]
+fn skip_fits(s: &[u8], record: Record) -> bool
+    requires { «record».start + «record».len ≤ length s.now }
+    ensures { result ≡ skip_fits s.now (record_of 4 «record».start «record».len) }
 {
-    if len != 2 {
+    if record.len != 2 {
         return false;
     }
-    let mode = byte(s, start);
-    let letter = byte(s, start + 1);
-    if mode <= 1 {
-        return letter == 0;
+    let letter = byte(s, record.start + 1);
+    match byte(s, record.start) {
+        0 | 1 => letter == 0,
+        2 | 3 => is_letter(letter),
+        _ => false,
     }
-    both(at_most(mode, 3), within(65, 90, letter))
 }
 
-// Kind 5: those, and a reserved byte.
-fn measure_fits(s: &[u8], columns: usize, start: usize, len: usize) -> bool
-    requires { start + len ≤ length s.now }
-    ensures { result ≡ measure_fits s.now columns (record_of 5 start len) }
+// Kind 5: a function, a letter and a column, and a reserved byte.
+#[tactic(auto, unfolding(rules::specs::Query::measure_fits, rules::specs::Query::field))]
+fn measure_fits(s: &[u8], columns: usize, record: Record) -> bool
+    requires { «record».start + «record».len ≤ length s.now }
+    ensures { result ≡ measure_fits s.now columns (record_of 5 «record».start «record».len) }
 {
-    if len != 4 {
+    if record.len != 4 {
         return false;
     }
-    let good = function_fits(
-        columns,
-        byte(s, start),
-        byte(s, start + 1),
-        byte(s, start + 2),
-    );
-    both(good, same(byte(s, start + 3), 0))
+    let at = record.start;
+    function_fits(columns, byte(s, at), byte(s, at + 1), byte(s, at + 2)) && byte(s, at + 3) == 0
 }
 
 // The fields of one record.
-pub fn record_fits(s: &[u8], columns: usize, kind: usize, start: usize, len: usize) -> bool
-    requires { start + len ≤ length s.now }
-    ensures { result ≡ record_fits s.now columns (record_of kind start len) }
+#[tactic(auto, unfolding(rules::specs::Query::record_fits, rules::specs::Query::text_fits))]
+pub fn record_fits(s: &[u8], columns: usize, record: Record) -> bool
+    requires { «record».start + «record».len ≤ length s.now }
+    ensures { result ≡ record_fits s.now columns (record_of «record».kind «record».start «record».len) }
 {
-    if kind == 1 {
-        return shape_fits(s, start, len);
+    match Kind::of(record.kind) {
+        Some(Kind::Shape) => shape_fits(s, record),
+        Some(Kind::Text) => record.len <= 256,
+        Some(Kind::AllOf) => define_fits(s, columns, record),
+        Some(Kind::Skip) => skip_fits(s, record),
+        Some(Kind::Measure) => measure_fits(s, columns, record),
+        Some(Kind::Postfix) => postfix_fits(s, columns, record),
+        None => true,
     }
-    if kind == 2 {
-        return len <= 256;
-    }
-    if kind == 3 {
-        return define_fits(s, columns, start, len);
-    }
-    if kind == 4 {
-        return skip_fits(s, start, len);
-    }
-    if kind == 5 {
-        return measure_fits(s, columns, start, len);
-    }
-    if kind == 6 {
-        return postfix_fits(s, columns, start, len);
-    }
-    true
 }

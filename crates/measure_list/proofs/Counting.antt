@@ -8,8 +8,8 @@ use native.Mathlib.Omega.{arith}
 use lib.Dec.{ltb}
 use lib.ListN.{length, get_or}
 use borrow.Author.Tests.{eq-eqb, ltb-true, ltb-false}
-use Rattle.records.specs.declared.Read.{Read}
-use Rattle.records.specs.declared.Read.TheVariants.{Record as Whole, Cut}
+use Rattle.std.specs.Prelude.{Some, None}
+use Rattle.records.specs.declared.Record.{Record as Read}
 use Rattle.rules.specs.Basics.{keep, tabulate}
 use Rattle.rules.specs.Query.{Record, columns_of, Measure, measure_at, measures_from, function_fits}
 use Rattle.laws.proofs.Choice.{decided}
@@ -18,6 +18,7 @@ use Rattle.records.proofs.Records.{records-end}
 use Rattle.records.proofs.Reading.{found, read_more, read-cut}
 use Rattle.table.specs.Measures.{measure_in, measures_in}
 use Rattle.query.specs.Ahead.{Ahead}
+use Rattle.query.specs.declared.Stage.TheVariants.{Measures}
 use Rattle.measure_list.specs.Measures.{MeasureFits, set_three, measure_of, MeasuresRoom, PutMeasures}
 use Rattle.measure_list.specs.declared.Measure.{Measure as Three}
 use Rattle.measure_list.proofs.Keeping.{kept_three}
@@ -27,7 +28,7 @@ use Rattle.query.proofs.Going.{this_fits, measure_next, measure_says}
 pub record Counting (s : List ℕ) (from : ℕ) (measures₀ measures : List ℕ) (at count : ℕ) : Type 0 where
   pub long : length measures ≡ 24
   pub few : count ≤ 8
-  pub ahead : Ahead s 3 (8 - count) at
+  pub ahead : Ahead s (Measures (8 - count)) at
   pub is : measures_in measures 0 count ++ measures_from s (records_at s at) ≡ measures_from s (records_at s from)
   pub fit : (k : ℕ) → k < count → MeasureFits (columns_of s) (measure_in measures 0 k)
   pub rest : (j : ℕ) → count * 3 ≤ j → get_or measures j 0 ≡ get_or measures₀ j 0
@@ -51,54 +52,53 @@ module _ (s : List ℕ) (from : ℕ) (measures₀ : List ℕ) where
     pub counting_all : length s ≤ at → PutMeasures s from measures₀ measures count
     counting_all w = ended (records-end s at w)
 
-    module _ (r : Read) (e : r ≡ read_at s at) where
-      pub counting_cut : r ≡ Cut → PutMeasures s from measures₀ measures count
-      counting_cut q = ended (read-cut s at r e q)
+    pub counting_cut : None ≡ read_at s at → PutMeasures s from measures₀ measures count
+    counting_cut e = ended (read-cut s at e)
 
-      module _ (k b m n : ℕ) (q : r ≡ Whole k b m n) where
-        next : (k ≡ 5) × (0 < 8 - count) × Ahead s 3 (8 - count - 1) n
-        next = measure_next s 3 (8 - count) at h.ahead r k b m n e q refl
+    module _ (x : Read) (e : Some x ≡ read_at s at) where
+      next : (x.kind ≡ 5) × (0 < 8 - count) × Ahead s (Measures (8 - count - 1)) x.next
+      next = measure_next s at x e (8 - count) h.ahead
 
-        says : (m ≡ 4) × (function_fits (columns_of s) (get_or s b 0) (get_or s (b + 1) 0) (get_or s (b + 2) 0) ≡ true)
-        says = measure_says s (columns_of s) k b m (this_fits s 3 (8 - count) at h.ahead r k b m n e q) next.0
+      says : (x.len ≡ 4) × (function_fits (columns_of s) (get_or s x.start 0) (get_or s (x.start + 1) 0) (get_or s (x.start + 2) 0) ≡ true)
+      says = measure_says s (columns_of s) x.kind x.start x.len (this_fits s (Measures (8 - count)) at h.ahead x e) next.0
 
-        pub counting_bytes : b + 4 ≤ length s
-        counting_bytes = let f = found s at r k b m n e q in let i = f.inside in let j = f.body in let y = says.0 in omega arith
+      pub counting_bytes : x.start + 4 ≤ length s
+      counting_bytes = let f = found s at x e in let i = f.inside in let j = f.body in let y = says.0 in omega arith
 
-        pub counting_room : count < 8
-        counting_room = let y = next.1 in omega arith
+      pub counting_room : count < 8
+      counting_room = let y = next.1 in omega arith
 
-        front : measures_from s (records_at s at) ≡ measure_at s b ∷ measures_from s (records_at s n)
-        unfolding measures_from
-        front = ap (measures_from s) (read_more s at r k b m n e q) ∙ ap (λ (t : Bool). keep t (measure_at s b) (measures_from s (records_at s n))) (eq-eqb k 5 next.0)
+      front : measures_from s (records_at s at) ≡ measure_at s x.start ∷ measures_from s (records_at s x.next)
+      unfolding measures_from
+      front = ap (measures_from s) (read_more s at x e) ∙ ap (λ (t : Bool). keep t (measure_at s x.start) (measures_from s (records_at s x.next))) (eq-eqb x.kind 5 next.0)
 
-        module _ (v : Three) (ev : measure_of v ≡ measure_at s b) (measures' : List ℕ) (em₀ : measures' ≡ set_three measures (count * 3) v.function v.letter v.column) where
-          put : measures' ≡ set_three measures (0 + count * 3) v.function v.letter v.column
-          put = em₀ ∙ ap (λ (i : ℕ). set_three measures i v.function v.letter v.column) (let e : count * 3 ≡ 0 + count * 3 = omega arith in e)
+      module _ (v : Three) (ev : measure_of v ≡ measure_at s x.start) (measures' : List ℕ) (em₀ : measures' ≡ set_three measures (count * 3) v.function v.letter v.column) where
+        put : measures' ≡ set_three measures (0 + count * 3) v.function v.letter v.column
+        put = em₀ ∙ ap (λ (i : ℕ). set_three measures i v.function v.letter v.column) (let e : count * 3 ≡ 0 + count * 3 = omega arith in e)
 
-          pub counting_more : Counting s from measures₀ measures' n (count + 1)
-          unfolding measure_at
-          counting_more =
-              let lg = h.long in
-              let cr = counting_room in
-              let t = kept_three measures (0 + count * 3) v.function v.letter v.column in
-              let em : measures' ≡ set_three measures (0 + count * 3) v.function v.letter v.column = put in
-              let fit3 : 0 + count * 3 + 3 ≤ length measures = omega arith in
-              let new : measure_in measures' 0 count ≡ measure_at s b = ap (λ (u : List ℕ). measure_in u 0 count) em
-              ∙ measure_new measures 0 count v.function v.letter v.column fit3 ∙ ev in
-              let more : measures_in measures' 0 (count + 1) ≡ measures_in measures 0 count ++ (measure_at s b ∷ []) =
-              ap (λ (u : List ℕ). measures_in u 0 (count + 1)) em ∙ measures_more measures 0 count v.function v.letter v.column fit3
-              ∙ ap (λ (u : Measure). measures_in measures 0 count ++ (u ∷ [])) ev in
-              record {
-                long = ap length em ∙ t.long ∙ lg;
-                few = omega arith;
-                ahead = let i : 8 - (count + 1) ≡ 8 - count - 1 = omega arith in rw i next.2;
-                is =
-                    ap (λ (u : List Measure). u ++ measures_from s (records_at s n)) more
-                    ∙ append_assoc (measures_in measures 0 count) (measure_at s b ∷ []) (measures_from s (records_at s n))
-                    ∙ ap (λ (u : List Measure). measures_in measures 0 count ++ u) (sym front) ∙ h.is;
-                fit = λ j g. decided (ltb j count)
-                    (λ w. let i = ltb-true j count w in rw em (rw (measure_old measures 0 count v.function v.letter v.column j i) (h.fit j i)))
-                    (λ w. let i : j ≡ count = let u = ltb-false j count w in omega arith in rw (i, new) says.1);
-                rest = λ j g. ap (λ (u : List ℕ). get_or u j 0) em ∙ t.behind j (omega arith) ∙ h.rest j (omega arith);
-              }
+        pub counting_more : Counting s from measures₀ measures' x.next (count + 1)
+        unfolding measure_at
+        counting_more =
+            let lg = h.long in
+            let cr = counting_room in
+            let t = kept_three measures (0 + count * 3) v.function v.letter v.column in
+            let em : measures' ≡ set_three measures (0 + count * 3) v.function v.letter v.column = put in
+            let fit3 : 0 + count * 3 + 3 ≤ length measures = omega arith in
+            let new : measure_in measures' 0 count ≡ measure_at s x.start = ap (λ (u : List ℕ). measure_in u 0 count) em
+            ∙ measure_new measures 0 count v.function v.letter v.column fit3 ∙ ev in
+            let more : measures_in measures' 0 (count + 1) ≡ measures_in measures 0 count ++ (measure_at s x.start ∷ []) =
+            ap (λ (u : List ℕ). measures_in u 0 (count + 1)) em ∙ measures_more measures 0 count v.function v.letter v.column fit3
+            ∙ ap (λ (u : Measure). measures_in measures 0 count ++ (u ∷ [])) ev in
+            record {
+              long = ap length em ∙ t.long ∙ lg;
+              few = omega arith;
+              ahead = let i : 8 - (count + 1) ≡ 8 - count - 1 = omega arith in rw i next.2;
+              is =
+                  ap (λ (u : List Measure). u ++ measures_from s (records_at s x.next)) more
+                  ∙ append_assoc (measures_in measures 0 count) (measure_at s x.start ∷ []) (measures_from s (records_at s x.next))
+                  ∙ ap (λ (u : List Measure). measures_in measures 0 count ++ u) (sym front) ∙ h.is;
+              fit = λ j g. decided (ltb j count)
+                  (λ w. let i = ltb-true j count w in rw em (rw (measure_old measures 0 count v.function v.letter v.column j i) (h.fit j i)))
+                  (λ w. let i : j ≡ count = let u = ltb-false j count w in omega arith in rw (i, new) says.1);
+              rest = λ j g. ap (λ (u : List ℕ). get_or u j 0) em ∙ t.behind j (omega arith) ∙ h.rest j (omega arith);
+            }

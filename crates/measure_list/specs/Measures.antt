@@ -4,6 +4,7 @@ use Rattle.std.specs.Prelude.{◌≡◌, true, List, ℕ, ◌+◌, ◌*◌, ◌�
 use Rattle.rules.specs.Query.{Measure, function_fits, columns_of, measures_from}
 use Rattle.records.specs.Read.{records_at}
 use Rattle.query.specs.Ahead.{Ahead}
+use Rattle.query.specs.declared.Stage.TheVariants.{Measures}
 use Rattle.table.specs.Measures.{measure_in, measures_in}
 use Rattle.measure_list.specs.declared.Measure.{Measure as Three}
 
@@ -21,7 +22,7 @@ set_three l at a b c = set (set (set l at a) (at + 1) b) (at + 2) c
 
 -- all measures, from an index on; r is how many there are
 pub record MeasuresRoom (s : List ℕ) (from : ℕ) (measures : List ℕ) : Type 0 where
-  pub ahead : Ahead s 3 8 from
+  pub ahead : Ahead s (Measures 8) from
   pub long : length measures ≡ 24
 
 pub record PutMeasures (s : List ℕ) (from : ℕ) (measures₀ measures : List ℕ) (r : ℕ) : Type 0 where

@@ -1,19 +1,19 @@
 -- The shape's count of columns stands in byte 4 of every query whose records are in order; what
 -- `first_answer` tells of answers 1 and 2; and the loop that counts the measures.
 use mathlib.Core.Path.{◌≡◌, refl, sym, ap, ◌∙◌}
-use mathlib.Core.Bool.{Bool, true, false, not, ◌&&◌, ◌||◌, true≢false, false≢true}
-use mathlib.Core.List.{List, [], ◌∷◌}
-use Prim.Native.Nat.{ℕ, zero, suc, ◌+◌, ◌*◌, ◌≤◌, ◌<◌}
+use mathlib.Core.Bool.{Bool, true, false, not, ◌&&◌, ◌||◌, true≢false}
+use mathlib.Core.List.{List, []}
+use Prim.Native.Nat.{ℕ, zero, suc, ◌+◌, ◌*◌, ◌≤◌}
 use native.Mathlib.Omega.{arith}
-use lib.Dec.{eqb, ltb, leb}
+use lib.Dec.{eqb, ltb}
 use lib.ListN.{length, get_or}
-use borrow.Author.Tests.{eq-eqb, ne_eqb, leb-true, leb-false, le-ltb, lt-ltb, not-false}
+use borrow.Author.Tests.{not-false}
 use Rattle.rules.specs.Basics.{pick, keep}
-use Rattle.rules.specs.Query.{Record, whole_at, record_at, next_at, records_on, records_from, records, kinds, one_of, some_of, none_left, is_define, is_measure, in_order, cut, misplaced, unfit, first_of_kind, field, columns_of, measure_at, measures_from, Measure, parts}
+use Rattle.rules.specs.Query.{Record, whole_at, record_at, next_at, records_on, records_from, records, kinds, one_of, some_of, none_left, is_define, is_measure, in_order, cut, misplaced, unfit, first_of_kind, field, columns_of, measure_at, measures_from, parts}
 use Rattle.laws.proofs.Choice.{and_left}
-use Rattle.records.specs.declared.Read.{Read}
-use Rattle.records.specs.declared.Read.TheVariants.{Record as Whole, Cut}
-use Rattle.records.specs.Read.{record_of, records_at, read_at}
+use Rattle.std.specs.Prelude.{Some, None}
+use Rattle.records.specs.declared.Record.{Record as Read}
+use Rattle.records.specs.Read.{records_at, read_at}
 use Rattle.records.proofs.Reading.{found, read_more, read-cut}
 use Rattle.records.proofs.Records.{records-end}
 use Rattle.query.specs.Order.{first_answer}
@@ -37,90 +37,36 @@ pub shape_is : (q : List ℕ) → misplaced q ≡ false → columns_of q ≡ get
 unfolding misplaced columns_of records
 shape_is q e = shape_from (length q) q (not-false (in_order (kinds (records q))) e)
 
-pub shape_none : (q : List ℕ) → length q ≤ 4 → 0 ≡ get_or q 4 0
-shape_none [] h = refl
-shape_none (a ∷ []) h = refl
-shape_none (a ∷ b ∷ []) h = refl
-shape_none (a ∷ b ∷ c ∷ []) h = refl
-shape_none (a ∷ b ∷ c ∷ d ∷ []) h = refl
-shape_none (a ∷ b ∷ c ∷ d ∷ e ∷ q) h = absurd (omega arith)
-
 -- a named column is outside the shape in byte 4
 abbrev named : List ℕ → ℕ → ℕ → Bool
 named q depot month = not (ltb depot (get_or q 4 0) && ltb month (get_or q 4 0))
 
-le_not_lt : (a b : ℕ) → leb a b ≡ not (ltb b a)
-le_not_lt a b = go (leb a b) refl
-  where
-    go : (t : Bool) → leb a b ≡ t → t ≡ not (ltb b a)
-    go true e = rw (le-ltb b a (leb-true a b e))
-    go false e = rw (lt-ltb b a (leb-false a b e))
-
-pub named-depot : (q : List ℕ) (depot month c : ℕ) → c ≡ get_or q 4 0 → c ≤ depot → true ≡ named q depot month
-named-depot q depot month c e h = rw (← e, le-ltb depot c h)
-
-pub named-month : (q : List ℕ) (depot month c : ℕ) → c ≡ get_or q 4 0 → depot < c → leb c month ≡ named q depot month
-named-month q depot month c e h = rw (← e, lt-ltb depot c h) (le_not_lt c month)
-
 -- ---- whether the answer is 3
 
-module _ (q : List ℕ) (depot month : ℕ) (o : Bool) (e : o ≡ named q depot month) where
-  and_none : (a : Bool) → false ≡ (a && false)
-  and_none true = refl
-  and_none false = refl
-
-  outside-is : misplaced q ≡ false → outside q depot month ≡ o
+module _ (q : List ℕ) (depot month : ℕ) where
+  outside-is : misplaced q ≡ false → outside q depot month ≡ named q depot month
   unfolding outside
-  outside-is f = rw (shape_is q f) (sym e)
+  outside-is f = rw (shape_is q f) refl
 
-  -- no named column is outside
-  pub three_inside : o ≡ false → false ≡ is_three q depot month
-  unfolding is_three
-  three_inside t = go (cut q) (misplaced q) refl
-    where
-      go : (a b : Bool) → misplaced q ≡ b → false ≡ (outside q depot month && not (a || b))
-      go true b f = and_none (outside q depot month)
-      go false true f = and_none (outside q depot month)
-      go false false f = rw (outside-is f ∙ t)
-
-  -- answer 1, or 2, comes first
-  pub three_cut : (n : ℕ) → n ≡ first_answer q → n ≡ 1 → false ≡ is_three q depot month
+  -- the answers 1 and 2 come first
+  pub three_is : is_three q depot month ≡ (named q depot month && not (eqb (first_answer q) 1 || eqb (first_answer q) 2))
   unfolding is_three first_answer
-  three_cut n i f = go (cut q) (misplaced q) (unfit q) (sym i ∙ f)
+  three_is = by (cut q) (misplaced q) refl (unfit q)
     where
-      go : (a b c : Bool) → ◌≡◌ {A = ℕ} (pick a 1 (pick b 2 (pick c 3 0))) 1 → false ≡ (outside q depot month && not (a || b))
-      go true b c z = and_none (outside q depot month)
-      go false true c z = absurd (omega arith)
-      go false false true z = absurd (omega arith)
-      go false false false z = absurd (omega arith)
+      and_none : (a b : Bool) → (a && false) ≡ (b && false)
+      and_none true true = refl
+      and_none true false = refl
+      and_none false true = refl
+      and_none false false = refl
 
-  pub three_misplaced : (n : ℕ) → n ≡ first_answer q → n ≡ 2 → false ≡ is_three q depot month
-  unfolding is_three first_answer
-  three_misplaced n i f = go (cut q) (misplaced q) (unfit q) (sym i ∙ f)
-    where
-      go : (a b c : Bool) → ◌≡◌ {A = ℕ} (pick a 1 (pick b 2 (pick c 3 0))) 2 → false ≡ (outside q depot month && not (a || b))
-      go true b c z = and_none (outside q depot month)
-      go false true c z = and_none (outside q depot month)
-      go false false true z = absurd (omega arith)
-      go false false false z = absurd (omega arith)
-
-  pub three_outside : o ≡ true → (n : ℕ) → n ≡ first_answer q → (n ≡ 1 → ⊥) → (n ≡ 2 → ⊥) → true ≡ is_three q depot month
-  unfolding is_three first_answer
-  three_outside t n i d f = go (cut q) (misplaced q) refl (λ z. d (i ∙ z)) (λ z. f (i ∙ z))
-    where
-      go : (a b : Bool) → misplaced q ≡ b → (◌≡◌ {A = ℕ} (pick a 1 (pick b 2 (pick (unfit q) 3 0))) 1 → ⊥) → (◌≡◌ {A = ℕ} (pick a 1 (pick b 2 (pick (unfit q) 3 0))) 2 → ⊥)
-          → true ≡ (outside q depot month && not (a || b))
-      go true b m x y = absurd (x refl)
-      go false true m x y = absurd (y refl)
-      go false false m x y = rw (outside-is m ∙ t)
+      by : (a b : Bool) → misplaced q ≡ b → (c : Bool)
+          → (outside q depot month && not (a || b)) ≡ (named q depot month && not (eqb (pick a 1 (pick b 2 (pick c 3 0))) 1 || eqb (pick a 1 (pick b 2 (pick c 3 0))) 2))
+      by true b f c = and_none (outside q depot month) (named q depot month)
+      by false true f c = and_none (outside q depot month) (named q depot month)
+      by false false f true = ap (λ (t : Bool). t && true) (outside-is f)
+      by false false f false = ap (λ (t : Bool). t && true) (outside-is f)
 
 -- ---- measures
-
-pub one_more : (count k : ℕ) → k ≡ 5 → count + 1 ≡ count + pick (eqb k 5) 1 0
-one_more count k e = rw (eq-eqb k 5 e)
-
-pub no_more : (count k : ℕ) → (k ≡ 5 → ⊥) → count ≡ count + pick (eqb k 5) 1 0
-no_more count k d = rw (ne_eqb k 5 d) (omega arith)
 
 -- those before an index have been counted
 pub record Counting (s : List ℕ) (at count : ℕ) : Type 0 where
@@ -132,38 +78,35 @@ pub counting_none : (s : List ℕ) → Counting s 0 0
 unfolding records_at parts records
 counting_none s = record { upto = omega arith; few = omega arith; sum = omega arith }
 
-keep-long : (t : Bool) (m : Measure) (ms : List Measure) → length (keep t m ms) ≡ pick t 1 0 + length ms
-keep-long true m ms = omega arith
-keep-long false m ms = omega arith
+module _ (s : List ℕ) (at count : ℕ) (c : Counting s at count) where
+  module _ (x : Read) (e : Some x ≡ read_at s at) where
+    front : measures_from s (records_at s at) ≡ keep (is_measure x.kind) (measure_at s x.start) (measures_from s (records_at s x.next))
+    unfolding measures_from is_measure
+    front = ap (measures_from s) (read_more s at x e)
 
-at_most_one : (t : Bool) → pick t 1 0 ≤ 1
-at_most_one true = omega arith
-at_most_one false = omega arith
+    -- the record is a measure, or another
+    pub counting_more : is_measure x.kind ≡ true → Counting s x.next (count + 1)
+    counting_more t =
+        let f = found s at x e in
+        let g : length (measures_from s (records_at s at)) ≡ suc (length (measures_from s (records_at s x.next))) =
+        ap length (front ∙ ap (λ (u : Bool). keep u (measure_at s x.start) (measures_from s (records_at s x.next))) t) in
+        record { upto = f.inside; few = omega (arith, c.few, f.on); sum = omega (arith, c.sum, g) }
 
-module _ (s : List ℕ) (at count : ℕ) (c : Counting s at count) (r : Read) where
-  pub counting_more : (k b l n : ℕ) → r ≡ read_at s at → r ≡ Whole k b l n → (count' : ℕ) → count' ≡ count + pick (eqb k 5) 1 0 → Counting s n count'
+    pub counting_other : is_measure x.kind ≡ false → Counting s x.next count
+    counting_other t =
+        let f = found s at x e in
+        let g : length (measures_from s (records_at s at)) ≡ length (measures_from s (records_at s x.next)) =
+        ap length (front ∙ ap (λ (u : Bool). keep u (measure_at s x.start) (measures_from s (records_at s x.next))) t) in
+        record { upto = f.inside; few = omega (arith, c.few, f.on); sum = omega (arith, c.sum, g) }
+
+  ended : records_at s at ≡ [] → (count ≡ length (parts s).measures) × (4 * count ≤ length s)
   unfolding measures_from
-  counting_more k b l n e q count' i =
-      let f = found s at r k b l n e q in
-      let g : length (measures_from s (records_at s at)) ≡ pick (eqb k 5) 1 0 + length (measures_from s (records_at s n)) =
-      ap (λ (rs : List Record). length (measures_from s rs)) (read_more s at r k b l n e q) ∙ keep-long (eqb k 5) (measure_at s b) (measures_from s (records_at s n)) in
-      let o = at_most_one (eqb k 5) in
-      record { upto = f.inside; few = omega (arith, c.few, f.on); sum = omega (arith, c.sum, g) }
+  ended e =
+      let g : length (measures_from s (records_at s at)) ≡ 0 = ap (λ (rs : List Record). length (measures_from s rs)) e in
+      (omega (arith, c.sum, g), omega (arith, c.few, c.upto))
 
-  pub counting_cut : r ≡ read_at s at → r ≡ Cut → count ≡ length (parts s).measures
-  unfolding measures_from
-  counting_cut e q =
-      let g : length (measures_from s (records_at s at)) ≡ 0 = ap (λ (rs : List Record). length (measures_from s rs)) (read-cut s at r e q) in
-      omega (arith, c.sum, g)
+  pub counting_cut : None ≡ read_at s at → (count ≡ length (parts s).measures) × (4 * count ≤ length s)
+  counting_cut e = ended (read-cut s at e)
 
-pub counting_all : (s : List ℕ) (at count : ℕ) → Counting s at count → length s ≤ at → count ≡ length (parts s).measures
-unfolding measures_from
-counting_all s at count c h =
-    let g : length (measures_from s (records_at s at)) ≡ 0 = ap (λ (rs : List Record). length (measures_from s rs)) (records-end s at h) in
-    omega (arith, c.sum, g)
-
-pub counting_short : (s : List ℕ) (at count : ℕ) → Counting s at count → 4 * count ≤ length s
-counting_short s at count c = omega (arith, c.few, c.upto)
-
-pub counting_fits : (s : List ℕ) (at count : ℕ) → Counting s at count → length s < 18446744073709551615 → count < 18446744073709551615
-counting_fits s at count c h = omega (arith, c.few, c.upto)
+  pub counting_all : length s ≤ at → (count ≡ length (parts s).measures) × (4 * count ≤ length s)
+  counting_all h = ended (records-end s at h)

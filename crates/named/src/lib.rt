@@ -4,25 +4,17 @@
 #![tactic(auto)]
 
 ghost use Rattle.std.specs.Prelude.{◌≡◌, not, ◌&&◌, ◌+◌, ◌*◌, ◌≤◌, ◌<◌, ltb, eqb, length, get_or};
-ghost use Rattle.rules.specs.Basics.{pick};
 ghost use Rattle.rules.specs.Query.{parts};
 ghost use Rattle.named.specs.Outside.{is_three};
 
-use numbers::wide8;
 use query::first_answer;
-use records::{Read, record_at};
-
-// The kind of a measure's record.
-const MEASURE: usize = 5;
+use records::{is_measure, record_at};
 
 // The shape's count of columns, in every query whose records are in order.
 pub fn shape_of(query: &[u8]) -> usize
     ensures { result ≡ get_or query.now 4 0 }
 {
-    if 4 < query.len() {
-        return wide8(query[4]);
-    }
-    0
+    query.get(4).map_or(0, |byte| usize::from(*byte))
 }
 
 // Whether a named column is outside that shape.
@@ -30,39 +22,16 @@ fn named_outside(query: &[u8], depot: usize, month: usize) -> bool
     ensures { result ≡ not (ltb depot (get_or query.now 4 0) && ltb month (get_or query.now 4 0)) }
 {
     let columns = shape_of(query);
-    if columns <= depot {
-        return true;
-    }
-    columns <= month
+    columns <= depot || columns <= month
 }
 
 // Whether a named column outside the shape is the partition's answer: it ranks as 3, so behind 1
 // and 2.
+#[tactic(auto, using(crate::proofs::Shapes::three_is))]
 pub fn is_three(query: &[u8], depot: usize, month: usize) -> bool
     ensures { result ≡ is_three query.now depot month }
 {
-    if named_outside(query, depot, month) {
-        let first = first_answer(query);
-        if first == 1 {
-            return false;
-        }
-        if first == 2 {
-            return false;
-        }
-        return true;
-    }
-    false
-}
-
-// One measure more, where a record is one.
-fn counted(count: usize, kind: usize) -> usize
-    requires { count < 18446744073709551615 }
-    ensures { result ≡ count + pick (eqb kind 5) 1 0 }
-{
-    if kind == MEASURE {
-        return count + 1;
-    }
-    count
+    named_outside(query, depot, month) && !matches!(first_answer(query), 1 | 2)
 }
 
 // How many measures a query has. A record takes 4 bytes at least.
@@ -72,17 +41,13 @@ pub fn measure_count(query: &[u8]) -> usize
     let mut at = 0;
     let mut count = 0;
     while at < query.len() {
-        let Read::Record {
-            kind,
-            start: _,
-            len: _,
-            next,
-        } = record_at(query, at)
-        else {
-            return count;
+        let Some(record) = record_at(query, at) else {
+            break;
         };
-        count = counted(count, kind);
-        at = next;
+        if is_measure(record.kind) {
+            count += 1;
+        }
+        at = record.next;
     }
     count
 }

@@ -8,13 +8,15 @@ use native.Mathlib.Omega.{arith}
 use lib.Dec.{eqb, leb}
 use lib.ListN.{length, get_or}
 use borrow.Author.Tests.{eq-eqb, ne_eqb, eqb-true, leb-true, leb-false, not-false}
-use Rattle.records.specs.declared.Read.{Read}
-use Rattle.records.specs.declared.Read.TheVariants.{Record as Whole, Cut}
+use Rattle.std.specs.Prelude.{Some, None}
+use Rattle.records.specs.declared.Record.{Record as Read}
 use Rattle.rules.specs.Basics.{pick, in_range, is_letter, every, every_below}
 use Rattle.rules.specs.Query.{Record, records, one_of, some_of, none_left, is_define, is_measure, in_order, kinds, misplaced, field, shape_fits, text_fits, comparison_fits, define_fits, entries_fit, entries_end, read_entries, entries_of, leaves_one, postfix_fits, skip_fits, function_fits, measure_fits, record_fits, columns_of, unfit, cut}
 use Rattle.laws.proofs.Choice.{decided, clash, and_left, and_right}
 use Rattle.records.specs.Read.{record_of, records_at, read_at}
-use Rattle.query.specs.Order.{rest_of, first_answer}
+use Rattle.query.specs.declared.Stage.{Stage}
+use Rattle.query.specs.declared.Stage.TheVariants.{Shape, Text, Defines, Measures}
+use Rattle.query.specs.Order.{rest_of, place, first_answer}
 use Rattle.records.proofs.Records.{records-end}
 use Rattle.records.proofs.Reading.{found, read_more, read-cut}
 use Rattle.query.proofs.Order.{rest-nil}
@@ -32,7 +34,7 @@ clean s e = by (cut s) (misplaced s) (unfit s) e
     by false false true q = absurd (omega arith)
     by false false false q = (refl, refl)
 
-pub at-start : (s : List ℕ) → first_answer s ≡ 0 → Ahead s 0 0 0
+pub at-start : (s : List ℕ) → first_answer s ≡ 0 → Ahead s Shape 0
 unfolding misplaced unfit in_order rest_of records records_at
 at-start s e = let c = clean s e in record { upto = omega arith; order = not-false _ c.0; fits = not-false _ c.1 }
 
@@ -68,77 +70,79 @@ not_none x ks e = clash e
 
 -- ---- one record
 
-module _ (s : List ℕ) (a l at : ℕ) (h : Ahead s a l at) where
-  ended : records_at s at ≡ [] → a ≡ 3
+module _ (s : List ℕ) (stage : Stage) (at : ℕ) (h : Ahead s stage at) where
+  ended : records_at s at ≡ [] → place stage ≡ 3
   unfolding kinds
-  ended e = eqb-true a 3 (sym (rest-nil l a) ∙ ap (λ (x : List Record). rest_of a l (kinds x)) (sym e) ∙ h.order)
+  ended e = eqb-true (place stage) 3 (sym (rest-nil stage) ∙ ap (λ (x : List Record). rest_of stage (kinds x)) (sym e) ∙ h.order)
 
   -- before the measures there is a record more
-  pub before-end : (a ≡ 3 → ⊥) → at < length s
+  pub before-end : (place stage ≡ 3 → ⊥) → at < length s
   before-end f = decided (leb (suc at) (length s)) (λ t. leb-true (suc at) (length s) t) (λ t. absurd (f (ended (records-end s at (let y = leb-false (suc at) (length s) t in omega arith)))))
 
-  pub not-cut : (r : Read) → (a ≡ 3 → ⊥) → r ≡ read_at s at → r ≡ Cut → ⊥
-  not-cut r f e q = f (ended (read-cut s at r e q))
+  pub not-cut : (place stage ≡ 3 → ⊥) → None ≡ read_at s at → ⊥
+  not-cut f e = f (ended (read-cut s at e))
 
-  module _ (r : Read) (k b m n : ℕ) (e : r ≡ read_at s at) (q : r ≡ Whole k b m n) where
-    ordered : rest_of a l (k ∷ kinds (records_at s n)) ≡ true
+  module _ (x : Read) (e : Some x ≡ read_at s at) where
+    ordered : rest_of stage (x.kind ∷ kinds (records_at s x.next)) ≡ true
     unfolding kinds
-    ordered = sym (ap (λ (x : List Record). rest_of a l (kinds x)) (read_more s at r k b m n e q)) ∙ h.order
+    ordered = sym (ap (λ (y : List Record). rest_of stage (kinds y)) (read_more s at x e)) ∙ h.order
 
-    both-fit : (record_fits s (columns_of s) (record_of k b m) && every (record_fits s (columns_of s)) (records_at s n)) ≡ true
+    both-fit : (record_fits s (columns_of s) (record_of x.kind x.start x.len) && every (record_fits s (columns_of s)) (records_at s x.next)) ≡ true
     unfolding every
-    both-fit = sym (ap (every (record_fits s (columns_of s))) (read_more s at r k b m n e q)) ∙ h.fits
+    both-fit = sym (ap (every (record_fits s (columns_of s))) (read_more s at x e)) ∙ h.fits
 
-    pub this_fits : record_fits s (columns_of s) (record_of k b m) ≡ true
+    pub this_fits : record_fits s (columns_of s) (record_of x.kind x.start x.len) ≡ true
     this_fits = and_left _ _ both-fit
 
-    go_on : (a' l' : ℕ) → rest_of a' l' (kinds (records_at s n)) ≡ true → Ahead s a' l' n
-    go_on a' l' o = record { upto = (found s at r k b m n e q).inside; order = o; fits = and_right (record_fits s (columns_of s) (record_of k b m)) _ both-fit }
+    go_on : (stage' : Stage) → rest_of stage' (kinds (records_at s x.next)) ≡ true → Ahead s stage' x.next
+    go_on stage' o = record { upto = (found s at x e).inside; order = o; fits = and_right (record_fits s (columns_of s) (record_of x.kind x.start x.len)) _ both-fit }
 
-    at_stage : (i : ℕ) → a ≡ i → rest_of i l (k ∷ kinds (records_at s n)) ≡ true
-    at_stage i w = ap (λ (j : ℕ). rest_of j l (k ∷ kinds (records_at s n))) (sym w) ∙ ordered
+-- the record at an index, by the stage there
+module _ (s : List ℕ) (at : ℕ) (x : Read) (e : Some x ≡ read_at s at) where
+  ks : List ℕ
+  ks = kinds (records_at s x.next)
 
-    pub shape_next : a ≡ 0 → (k ≡ 1) × Ahead s 1 0 n
-    unfolding rest_of
-    shape_next w = let z = one_in 1 (one_of 2 (some_of 26 is_define (one_of 4 (some_of 8 is_measure none_left)))) k (kinds (records_at s n)) (at_stage 0 w) in (z.0, go_on 1 0 z.1)
+  pub shape_next : Ahead s Shape at → (x.kind ≡ 1) × Ahead s Text x.next
+  unfolding rest_of ks
+  shape_next h = let z = one_in 1 (one_of 2 (some_of 26 is_define (one_of 4 (some_of 8 is_measure none_left)))) x.kind ks (ordered s Shape at h x e) in (z.0, go_on s Shape at h x e Text z.1)
 
-    pub text-next : a ≡ 1 → (k ≡ 2) × Ahead s 2 26 n
-    unfolding rest_of
-    text-next w = let z = one_in 2 (some_of 26 is_define (one_of 4 (some_of 8 is_measure none_left))) k (kinds (records_at s n)) (at_stage 1 w) in (z.0, go_on 2 26 z.1)
+  pub text-next : Ahead s Text at → (x.kind ≡ 2) × Ahead s (Defines 26) x.next
+  unfolding rest_of ks
+  text-next h = let z = one_in 2 (some_of 26 is_define (one_of 4 (some_of 8 is_measure none_left))) x.kind ks (ordered s Text at h x e) in (z.0, go_on s Text at h x e (Defines 26) z.1)
 
-    pub define_next : a ≡ 2 → is_define k ≡ true → Ahead s 2 (l - 1) n
-    unfolding rest_of
-    define_next w d =
-        let z = some_in is_define (one_of 4 (some_of 8 is_measure none_left)) k (kinds (records_at s n)) l (λ u. define_not_4 k d (one_in 4 (some_of 8 is_measure none_left) k (kinds (records_at s n)) u).0) d (at_stage 2 w) in
-        go_on 2 (l - 1) z.1
+  pub define_next : (l : ℕ) → Ahead s (Defines l) at → is_define x.kind ≡ true → Ahead s (Defines (l - 1)) x.next
+  unfolding rest_of ks
+  define_next l h d =
+      let z = some_in is_define (one_of 4 (some_of 8 is_measure none_left)) x.kind ks l (λ u. define_not_4 x.kind d (one_in 4 (some_of 8 is_measure none_left) x.kind ks u).0) d (ordered s (Defines l) at h x e) in
+      go_on s (Defines l) at h x e (Defines (l - 1)) z.1
 
-    -- no DEFINE comes: none may come any more
-    pub defines-over : a ≡ 2 → is_define k ≡ false → Ahead s 2 0 at
-    unfolding rest_of some_of kinds
-    defines-over w f =
-        record {
-          upto = h.upto;
-          order = ap (λ (x : List Record). rest_of 2 0 (kinds x)) (read_more s at r k b m n e q)
-              ∙ some_out is_define (one_of 4 (some_of 8 is_measure none_left)) k (kinds (records_at s n)) l f (at_stage 2 w);
-          fits = h.fits;
-        }
+  -- no DEFINE comes: none may come any more
+  pub defines-over : (l : ℕ) → Ahead s (Defines l) at → is_define x.kind ≡ false → Ahead s (Defines 0) at
+  unfolding rest_of some_of kinds ks
+  defines-over l h f =
+      record {
+        upto = h.upto;
+        order = ap (λ (y : List Record). rest_of (Defines 0) (kinds y)) (read_more s at x e)
+            ∙ some_out is_define (one_of 4 (some_of 8 is_measure none_left)) x.kind ks l f (ordered s (Defines l) at h x e);
+        fits = h.fits;
+      }
 
-    pub skip_next : a ≡ 2 → l ≡ 0 → (k ≡ 4) × Ahead s 3 8 n
-    unfolding rest_of some_of
-    skip_next w i =
-        let z = one_in 4 (some_of 8 is_measure none_left) k (kinds (records_at s n)) (ap (λ (j : ℕ). some_of j is_define (one_of 4 (some_of 8 is_measure none_left)) (k ∷ kinds (records_at s n))) (sym i)
-        ∙ at_stage 2 w) in
-        (z.0, go_on 3 8 z.1)
+  pub skip_next : Ahead s (Defines 0) at → (x.kind ≡ 4) × Ahead s (Measures 8) x.next
+  unfolding rest_of some_of ks
+  skip_next h =
+      let z = one_in 4 (some_of 8 is_measure none_left) x.kind ks (ordered s (Defines 0) at h x e) in
+      (z.0, go_on s (Defines 0) at h x e (Measures 8) z.1)
 
-    measure_kind : a ≡ 3 → k ≡ 5
-    unfolding rest_of is_measure
-    measure_kind w = decided (eqb k 5) (λ t. eqb-true k 5 t) (λ t. absurd (not_none k (kinds (records_at s n)) (some_out is_measure none_left k (kinds (records_at s n)) l t (at_stage 3 w))))
+  module _ (l : ℕ) (h : Ahead s (Measures l) at) where
+    measure_kind : x.kind ≡ 5
+    unfolding rest_of is_measure ks
+    measure_kind = decided (eqb x.kind 5) (λ t. eqb-true x.kind 5 t) (λ t. absurd (not_none x.kind ks (some_out is_measure none_left x.kind ks l t (ordered s (Measures l) at h x e))))
 
-    pub measure_next : a ≡ 3 → (k ≡ 5) × (0 < l) × Ahead s 3 (l - 1) n
-    unfolding rest_of is_measure
-    measure_next w =
-        let z = some_in is_measure none_left k (kinds (records_at s n)) l (not_none k (kinds (records_at s n))) (eq-eqb k 5 (measure_kind w)) (at_stage 3 w) in
-        (measure_kind w, z.0, go_on 3 (l - 1) z.1)
+    pub measure_next : (x.kind ≡ 5) × (0 < l) × Ahead s (Measures (l - 1)) x.next
+    unfolding rest_of is_measure ks
+    measure_next =
+        let z = some_in is_measure none_left x.kind ks l (not_none x.kind ks) (eq-eqb x.kind 5 measure_kind) (ordered s (Measures l) at h x e) in
+        (measure_kind, z.0, go_on s (Measures l) at h x e (Measures (l - 1)) z.1)
 
 -- ---- what the fields of a kind are
 

@@ -8,14 +8,17 @@ use Prim.Native.Nat.{ℕ, zero, suc, ◌-◌, ◌≤◌, ◌<◌}
 use native.Mathlib.Omega.{arith}
 use lib.Dec.{eqb}
 use lib.ListN.{length, get_or}
-use borrow.Author.Tests.{eq-eqb, ne_eqb, eqb-true, eqb-false, not-true, not-false}
-use Rattle.records.specs.declared.Read.{Read}
-use Rattle.records.specs.declared.Read.TheVariants.{Record as Whole, Cut}
+use borrow.Author.Tests.{eq-eqb, ne_eqb, eqb-true, eqb-false}
+use Rattle.std.specs.Prelude.{Some, None}
+use Rattle.records.specs.declared.Record.{Record as Read}
 use Rattle.rules.specs.Basics.{pick, every}
 use Rattle.rules.specs.Query.{Record, records, one_of, some_of, none_left, is_define, is_measure, in_order, kinds, misplaced, first_of_kind, record_fits, columns_of, unfit}
 use Rattle.laws.proofs.Choice.{decided}
+use Rattle.records.specs.Kinds.{Unknown}
 use Rattle.records.specs.Read.{records_at, record_of, read_at}
-use Rattle.query.specs.Order.{rest_of, Follows, first_answer}
+use Rattle.query.specs.declared.Stage.{Stage}
+use Rattle.query.specs.declared.Stage.TheVariants.{Shape, Text, Defines, Measures, OutOfOrder}
+use Rattle.query.specs.Order.{rest_of, place, Follows, first_answer}
 use Rattle.records.proofs.Records.{records-end}
 use Rattle.records.proofs.Reading.{read_more, Along, along_none, along_more, along_cut, along_all, field-first}
 
@@ -68,98 +71,105 @@ texted = some_of 26 is_define defined
 abbrev shaped : List ℕ → Bool
 shaped = one_of 2 texted
 
-module _ (at left kind : ℕ) where
-  at_stage : (a : ℕ) → at ≡ a → (ks : List ℕ) → rest_of at left (kind ∷ ks) ≡ rest_of a left (kind ∷ ks)
-  at_stage a e ks = ap (λ (i : ℕ). rest_of i left (kind ∷ ks)) e
-
-  -- the stage behind a record in order
-  on-to : (a l : ℕ) → ((ks : List ℕ) → rest_of at left (kind ∷ ks) ≡ rest_of a l ks) → 0 < a → at < 4 → (at ≡ 0 → kind ≡ 1) → Follows a l at left kind
-  on-to a l f h g k = record { rest = λ ks. sym (f ks); on = h; known = λ q. g; first = λ q. k }
-
-  pub shape_yes : at ≡ 0 → kind ≡ 1 → Follows 1 0 at left kind
+module _ (kind : ℕ) where
+  pub shape_yes : kind ≡ 1 → Follows Text Shape kind
   unfolding rest_of
-  shape_yes e g = on-to 1 0 (λ ks. at_stage 0 e ks ∙ one-yes 1 shaped kind ks g) (omega arith) (omega arith) (λ q. g)
+  shape_yes g = record { rest = λ ks. sym (one-yes 1 shaped kind ks g); on = omega arith; known = λ q. omega arith; first = λ q z. g }
 
-  pub text-yes : at ≡ 1 → kind ≡ 2 → Follows 2 26 at left kind
+  pub text_yes : kind ≡ 2 → Follows (Defines 26) Text kind
   unfolding rest_of
-  text-yes e g = on-to 2 26 (λ ks. at_stage 1 e ks ∙ one-yes 2 texted kind ks g) (omega arith) (omega arith) (λ q. absurd (omega arith))
+  text_yes g = record { rest = λ ks. sym (one-yes 2 texted kind ks g); on = omega arith; known = λ q. omega arith; first = λ q z. absurd (omega arith) }
 
-  pub skip_yes : at ≡ 2 → kind ≡ 4 → Follows 3 8 at left kind
-  unfolding rest_of
-  skip_yes e g =
-      on-to 3 8 (λ ks. at_stage 2 e ks ∙ some-other is_define defined kind ks left (skip_other kind g) ∙ one-yes 4 skipped kind ks g) (omega arith) (omega arith) (λ q. absurd (omega arith))
+  module _ (left : ℕ) where
+    pub skip_yes : kind ≡ 4 → Follows (Measures 8) (Defines left) kind
+    unfolding rest_of
+    skip_yes g = record {
+      rest = λ ks. sym (some-other is_define defined kind ks left (skip_other kind g) ∙ one-yes 4 skipped kind ks g);
+      on = omega arith;
+      known = λ q. omega arith;
+      first = λ q z. absurd (omega arith);
+    }
 
-  pub defines-more : (r : Bool) → r ≡ is_define kind → not r ≡ false → at ≡ 2 → 0 < left → Follows 2 (left - 1) at left kind
-  unfolding rest_of
-  defines-more r er g e h = on-to 2 (left - 1) (λ ks. at_stage 2 e ks ∙ some_more is_define defined kind ks left h (sym er ∙ not-false r g)) (omega arith) (omega arith) (λ q. absurd (omega arith))
+    pub defines_more : is_define kind ≡ true → 0 < left → Follows (Defines (left - 1)) (Defines left) kind
+    unfolding rest_of
+    defines_more g h = record { rest = λ ks. sym (some_more is_define defined kind ks left h g); on = omega arith; known = λ q. omega arith; first = λ q z. absurd (omega arith) }
 
-  pub measures_more : at ≡ 3 → kind ≡ 5 → 0 < left → Follows 3 (left - 1) at left kind
-  unfolding rest_of is_measure
-  measures_more e g h = on-to 3 (left - 1) (λ ks. at_stage 3 e ks ∙ some_more is_measure none_left kind ks left h (eq-eqb kind 5 g)) (omega arith) (omega arith) (λ q. absurd (omega arith))
+    pub measures_more : kind ≡ 5 → 0 < left → Follows (Measures (left - 1)) (Measures left) kind
+    unfolding rest_of is_measure
+    measures_more g h = record { rest = λ ks. sym (some_more is_measure none_left kind ks left h (eq-eqb kind 5 g)); on = omega arith; known = λ q. omega arith; first = λ q z. absurd (omega arith) }
 
   -- behind a kind out of order
-  module _ (a l : ℕ) (w : a ≡ 4) where
-    stays_out : (ks : List ℕ) → rest_of a l ks ≡ false
+  off : (stage : Stage) → ((ks : List ℕ) → rest_of stage (kind ∷ ks) ≡ false) → Follows OutOfOrder stage kind
+  unfolding rest_of
+  off stage f = record { rest = λ ks. sym (f ks); on = omega arith; known = λ q. absurd (omega arith); first = λ q. absurd (omega arith) }
+
+  pub shape_no : (kind ≡ 1 → ⊥) → Follows OutOfOrder Shape kind
+  unfolding rest_of
+  shape_no g = off Shape (λ ks. one-no 1 shaped kind ks g)
+
+  pub text_no : (kind ≡ 2 → ⊥) → Follows OutOfOrder Text kind
+  unfolding rest_of
+  text_no g = off Text (λ ks. one-no 2 texted kind ks g)
+
+  module _ (left : ℕ) where
+    pub defines_other : is_define kind ≡ false → (kind ≡ 4 → ⊥) → Follows OutOfOrder (Defines left) kind
     unfolding rest_of
-    stays_out ks = ap (λ (i : ℕ). rest_of i l ks) w
+    defines_other h g = off (Defines left) (λ ks. some-other is_define defined kind ks left h ∙ one-no 4 skipped kind ks g)
 
-    off : ((ks : List ℕ) → rest_of at left (kind ∷ ks) ≡ false) → Follows a l at left kind
-    off f = record { rest = λ ks. stays_out ks ∙ sym (f ks); on = omega arith; known = λ q. absurd (omega arith); first = λ q. absurd (omega arith) }
-
-    pub shape_no : at ≡ 0 → (kind ≡ 1 → ⊥) → Follows a l at left kind
+    pub defines_full : left ≡ 0 → (kind ≡ 4 → ⊥) → Follows OutOfOrder (Defines left) kind
     unfolding rest_of
-    shape_no e g = off (λ ks. at_stage 0 e ks ∙ one-no 1 shaped kind ks g)
+    defines_full h g = off (Defines left) (λ ks. some-full is_define defined kind ks left h ∙ one-no 4 skipped kind ks g)
 
-    pub text-no : at ≡ 1 → (kind ≡ 2 → ⊥) → Follows a l at left kind
-    unfolding rest_of
-    text-no e g = off (λ ks. at_stage 1 e ks ∙ one-no 2 texted kind ks g)
-
-    pub skip_no : (r : Bool) → r ≡ is_define kind → not r ≡ true → at ≡ 2 → (kind ≡ 4 → ⊥) → Follows a l at left kind
-    unfolding rest_of
-    skip_no r er h e g = off (λ ks. at_stage 2 e ks ∙ some-other is_define defined kind ks left (sym er ∙ not-true r h) ∙ one-no 4 skipped kind ks g)
-
-    pub defines-full : at ≡ 2 → (kind ≡ 4 → ⊥) → left ≡ 0 → Follows a l at left kind
-    unfolding rest_of
-    defines-full e g h = off (λ ks. at_stage 2 e ks ∙ some-full is_define defined kind ks left h ∙ one-no 4 skipped kind ks g)
-
-    pub measures_other : at ≡ 3 → (kind ≡ 5 → ⊥) → Follows a l at left kind
+    pub measures_other : (kind ≡ 5 → ⊥) → Follows OutOfOrder (Measures left) kind
     unfolding rest_of none_left is_measure
-    measures_other e g = off (λ ks. at_stage 3 e ks ∙ some-other is_measure none_left kind ks left (ne_eqb kind 5 g))
+    measures_other g = off (Measures left) (λ ks. some-other is_measure none_left kind ks left (ne_eqb kind 5 g))
 
-    pub measures_full : at ≡ 3 → left ≡ 0 → Follows a l at left kind
+    pub measures_full : left ≡ 0 → Follows OutOfOrder (Measures left) kind
     unfolding rest_of none_left
-    measures_full e h = off (λ ks. at_stage 3 e ks ∙ some-full is_measure none_left kind ks left h)
+    measures_full h = off (Measures left) (λ ks. some-full is_measure none_left kind ks left h)
 
-    pub out_stays : (at ≡ 0 → ⊥) → (at ≡ 1 → ⊥) → (at ≡ 2 → ⊥) → (at ≡ 3 → ⊥) → Follows a l at left kind
-    unfolding rest_of
-    out_stays h0 h1 h2 h3 = off (λ ks. simp (ne_eqb at 0 h0, ne_eqb at 1 h1, ne_eqb at 2 h2, ne_eqb at 3 h3))
+  pub out_stays : Follows OutOfOrder OutOfOrder kind
+  unfolding rest_of
+  out_stays = off OutOfOrder (λ ks. refl)
+
+-- a kind of no such number is none in order
+module _ (kind : ℕ) (u : Unknown kind) where
+  pub unknown_out : (stage : Stage) → Follows OutOfOrder stage kind
+  unfolding is_define
+  unknown_out Shape = shape_no kind (λ e. omega (arith, u))
+  unknown_out Text = text_no kind (λ e. omega (arith, u))
+  unknown_out (Defines left) = defines_other kind left (simp (ne_eqb kind 3 (λ e. omega (arith, u)), ne_eqb kind 6 (λ e. omega (arith, u)))) (λ e. omega (arith, u))
+  unknown_out (Measures left) = measures_other kind left (λ e. omega (arith, u))
+  unknown_out OutOfOrder = out_stays kind
+
+-- stage 3 is that of the measures
+pub not_measures : (stage : Stage) → ((left : ℕ) → stage ≡ Measures left → ⊥) → place stage ≡ 3 → ⊥
+not_measures Shape f = λ e. omega arith
+not_measures Text f = λ e. omega arith
+not_measures (Defines left) f = λ e. omega arith
+not_measures (Measures left) f = λ e. f left refl
+not_measures OutOfOrder f = λ e. omega arith
 
 -- at the end the order is right exactly in stage 3
-pub rest-nil : (left at : ℕ) → rest_of at left [] ≡ eqb at 3
+pub rest-nil : (stage : Stage) → rest_of stage [] ≡ eqb (place stage) 3
 unfolding rest_of one_of none_left
-rest-nil left zero = refl
-rest-nil left (suc zero) = refl
-rest-nil left (suc (suc zero)) = some-nil left is_define defined
-rest-nil left (suc (suc (suc zero))) = some-nil left is_measure none_left
-rest-nil left (suc (suc (suc (suc k)))) =
-    simp (
-      ne_eqb (suc (suc (suc (suc k)))) 0 (λ e. omega arith),
-      ne_eqb (suc (suc (suc (suc k)))) 1 (λ e. omega arith),
-      ne_eqb (suc (suc (suc (suc k)))) 2 (λ e. omega arith),
-      ne_eqb (suc (suc (suc (suc k)))) 3 (λ e. omega arith),
-    )
+rest-nil Shape = refl
+rest-nil Text = refl
+rest-nil (Defines left) = some-nil left is_define defined
+rest-nil (Measures left) = some-nil left is_measure none_left
+rest-nil OutOfOrder = refl
 
 -- ---- what the pass has seen
 
--- At the index `at`, in the stage a with l: the order of the whole query is that of the kinds to
+-- At the index `at`, in this stage: the order of the whole query is that of the kinds to
 -- come. Up to a kind out of order, the columns are those of the shape once that was read, and the
 -- fields of the whole query fit exactly if those seen do (`fit`) and those to come.
-pub record Judged (s : List ℕ) (at a l columns : ℕ) (fit : Bool) : Type 0 where
+pub record Judged (s : List ℕ) (at : ℕ) (stage : Stage) (columns : ℕ) (fit : Bool) : Type 0 where
   pub along : Along s at
-  pub order : rest_of a l (kinds (records_at s at)) ≡ in_order (kinds (records s))
-  pub first : a ≡ 0 → records_at s at ≡ records s
-  pub shape : 0 < a → a < 4 → columns ≡ columns_of s
-  pub fits : a < 4 → (fit && every (record_fits s (columns_of s)) (records_at s at)) ≡ every (record_fits s (columns_of s)) (records s)
+  pub order : rest_of stage (kinds (records_at s at)) ≡ in_order (kinds (records s))
+  pub first : place stage ≡ 0 → records_at s at ≡ records s
+  pub shape : 0 < place stage → place stage < 4 → columns ≡ columns_of s
+  pub fits : place stage < 4 → (fit && every (record_fits s (columns_of s)) (records_at s at)) ≡ every (record_fits s (columns_of s)) (records s)
 
 pub columns-at : (s : List ℕ) (k b l : ℕ) (rs : List Record) → k ≡ 1 → record_of k b l ∷ rs ≡ records s → columns_of s ≡ get_or s b 0
 unfolding columns_of first_of_kind
@@ -168,32 +178,33 @@ columns-at s k b l rs e q =
     ∙ ap (λ (t : Bool). Rattle.rules.specs.Query.field s (pick t (record_of k b l) (first_of_kind 1 rs)) 0) (eq-eqb k 1 e) ∙ field-first s k b l
 
 module _ (s : List ℕ) where
-  pub judged-none : Judged s 0 0 0 0 true
+  pub judged_none : Judged s 0 Shape 0 true
   unfolding rest_of in_order records records_at
-  judged-none = record { along = along_none s; order = refl; first = λ e. refl; shape = λ h g. absurd (omega arith); fits = λ h. refl }
+  judged_none = record { along = along_none s; order = refl; first = λ e. refl; shape = λ h g. absurd (omega arith); fits = λ h. refl }
 
-  module _ (at a l columns : ℕ) (fit : Bool) (h : Judged s at a l columns fit) (r : Read) (k b m n : ℕ) (e : r ≡ read_at s at) (q : r ≡ Whole k b m n) where
-    columns-known : (c : ℕ) → c ≡ pick (eqb a 0) (get_or s b 0) columns → a < 4 → (a ≡ 0 → k ≡ 1) → c ≡ columns_of s
+  module _ (at : ℕ) (stage : Stage) (columns : ℕ) (fit : Bool) (h : Judged s at stage columns fit) (x : Read) (e : Some x ≡ read_at s at) where
+    columns-known : (c : ℕ) → c ≡ pick (eqb (place stage) 0) (get_or s x.start 0) columns → place stage < 4 → (place stage ≡ 0 → x.kind ≡ 1) → c ≡ columns_of s
     columns-known c ec g f =
-        decided (eqb a 0)
-        (λ t. let z = eqb-true a 0 t in ec ∙ ap (λ (u : Bool). pick u (get_or s b 0) columns) t
-        ∙ sym (columns-at s k b m (records_at s n) (f z) (sym (read_more s at r k b m n e q) ∙ h.first z)))
-        (λ t. let z = eqb-false a 0 t in ec ∙ ap (λ (u : Bool). pick u (get_or s b 0) columns) t ∙ h.shape (let y : 0 < a = omega arith in y) g)
+        decided (eqb (place stage) 0)
+        (λ t. let z = eqb-true (place stage) 0 t in ec ∙ ap (λ (u : Bool). pick u (get_or s x.start 0) columns) t
+        ∙ sym (columns-at s x.kind x.start x.len (records_at s x.next) (f z) (sym (read_more s at x e) ∙ h.first z)))
+        (λ t. let z = eqb-false (place stage) 0 t in ec ∙ ap (λ (u : Bool). pick u (get_or s x.start 0) columns) t ∙ h.shape (let y : 0 < place stage = omega arith in y) g)
 
-    fits_on : (c : ℕ) (v : Bool) → v ≡ (fit && record_fits s c (record_of k b m)) → c ≡ columns_of s → a < 4
-        → (v && every (record_fits s (columns_of s)) (records_at s n)) ≡ every (record_fits s (columns_of s)) (records s)
+    fits_on : (c : ℕ) (v : Bool) → v ≡ (fit && record_fits s c (record_of x.kind x.start x.len)) → c ≡ columns_of s → place stage < 4
+        → (v && every (record_fits s (columns_of s)) (records_at s x.next)) ≡ every (record_fits s (columns_of s)) (records s)
     unfolding every
     fits_on c v ev ec g =
-        ap (λ (u : Bool). u && every (record_fits s (columns_of s)) (records_at s n)) (ev ∙ ap (λ (i : ℕ). fit && record_fits s i (record_of k b m)) ec)
-        ∙ and_assoc fit (record_fits s (columns_of s) (record_of k b m)) (every (record_fits s (columns_of s)) (records_at s n))
-        ∙ ap (λ (x : List Record). fit && every (record_fits s (columns_of s)) x) (sym (read_more s at r k b m n e q)) ∙ h.fits g
+        ap (λ (u : Bool). u && every (record_fits s (columns_of s)) (records_at s x.next)) (ev ∙ ap (λ (i : ℕ). fit && record_fits s i (record_of x.kind x.start x.len)) ec)
+        ∙ and_assoc fit (record_fits s (columns_of s) (record_of x.kind x.start x.len)) (every (record_fits s (columns_of s)) (records_at s x.next))
+        ∙ ap (λ (y : List Record). fit && every (record_fits s (columns_of s)) y) (sym (read_more s at x e)) ∙ h.fits g
 
-    pub judged-more : (c a' l' : ℕ) (v : Bool) → c ≡ pick (eqb a 0) (get_or s b 0) columns → v ≡ (fit && record_fits s c (record_of k b m)) → Follows a' l' a l k → Judged s n a' l' c v
+    pub judged_more : (c : ℕ) (stage' : Stage) (v : Bool) → c ≡ pick (eqb (place stage) 0) (get_or s x.start 0) columns → v ≡ (fit && record_fits s c (record_of x.kind x.start x.len))
+        → Follows stage' stage x.kind → Judged s x.next stage' c v
     unfolding kinds
-    judged-more c a' l' v ec ev f =
+    judged_more c stage' v ec ev f =
         record {
-          along = along_more s at r k b m n h.along e q;
-          order = f.rest (kinds (records_at s n)) ∙ ap (λ (x : List Record). rest_of a l (kinds x)) (sym (read_more s at r k b m n e q)) ∙ h.order;
+          along = along_more s at x h.along e;
+          order = f.rest (kinds (records_at s x.next)) ∙ ap (λ (y : List Record). rest_of stage (kinds y)) (sym (read_more s at x e)) ∙ h.order;
           first = λ z. absurd (let y = f.on in omega arith);
           shape = λ y g. columns-known c ec (f.known g) (f.first g);
           fits = λ g. fits_on c v ev (columns-known c ec (f.known g) (f.first g)) (f.known g);
@@ -201,44 +212,31 @@ module _ (s : List ℕ) where
 
   -- ---- the three answers
 
-  pub judged-cut : (at a l columns : ℕ) (fit : Bool) (r : Read) → Judged s at a l columns fit → at < length s → r ≡ read_at s at → r ≡ Cut → 1 ≡ first_answer s
-  unfolding first_answer
-  judged-cut at a l columns fit r h g e q = simp (along_cut s at r h.along g e q)
+  module _ (at : ℕ) (stage : Stage) (columns : ℕ) (fit : Bool) (h : Judged s at stage columns fit) where
+    pub judged_cut : at < length s → None ≡ read_at s at → 1 ≡ first_answer s
+    unfolding first_answer
+    judged_cut g e = simp (along_cut s at h.along g e)
 
-  module _ (at a l columns : ℕ) (fit : Bool) (h : Judged s at a l columns fit) (end : length s ≤ at) where
-    none_left_lem : records_at s at ≡ []
-    none_left_lem = records-end s at end
+    module _ (end : length s ≤ at) where
+      none_left_lem : records_at s at ≡ []
+      none_left_lem = records-end s at end
 
-    ordered : in_order (kinds (records s)) ≡ eqb a 3
-    unfolding kinds
-    ordered = sym h.order ∙ ap (λ (x : List Record). rest_of a l (kinds x)) none_left_lem ∙ rest-nil l a
+      ordered : in_order (kinds (records s)) ≡ eqb (place stage) 3
+      unfolding kinds
+      ordered = sym h.order ∙ ap (λ (x : List Record). rest_of stage (kinds x)) none_left_lem ∙ rest-nil stage
 
-    fitting : a ≡ 3 → every (record_fits s (columns_of s)) (records s) ≡ fit
-    unfolding every
-    fitting e = sym (h.fits (let y : a < 4 = omega arith in y)) ∙ ap (λ (x : List Record). fit && every (record_fits s (columns_of s)) x) none_left_lem ∙ mathlib.Core.Bool.and-true fit
+      fitting : place stage ≡ 3 → every (record_fits s (columns_of s)) (records s) ≡ fit
+      unfolding every
+      fitting e = sym (h.fits (let y : place stage < 4 = omega arith in y)) ∙ ap (λ (x : List Record). fit && every (record_fits s (columns_of s)) x) none_left_lem ∙ mathlib.Core.Bool.and-true fit
 
-    pub judged-2 : (a ≡ 3 → ⊥) → 2 ≡ first_answer s
-    unfolding first_answer misplaced
-    judged-2 f = simp (along_all s at h.along end, ordered, ne_eqb a 3 f)
+      pub judged_2 : (place stage ≡ 3 → ⊥) → 2 ≡ first_answer s
+      unfolding first_answer misplaced
+      judged_2 f = simp (along_all s at h.along end, ordered, ne_eqb (place stage) 3 f)
 
-    pub judged-3 : a ≡ 3 → not fit ≡ true → 3 ≡ first_answer s
-    unfolding first_answer misplaced unfit
-    judged-3 e f = simp (along_all s at h.along end, ordered, eq-eqb a 3 e, fitting e, not-true fit f)
+      pub judged_3 : place stage ≡ 3 → fit ≡ false → 3 ≡ first_answer s
+      unfolding first_answer misplaced unfit
+      judged_3 e f = simp (along_all s at h.along end, ordered, eq-eqb (place stage) 3 e, fitting e, f)
 
-    pub judged-0 : a ≡ 3 → not fit ≡ false → 0 ≡ first_answer s
-    unfolding first_answer misplaced unfit
-    judged-0 e f = simp (along_all s at h.along end, ordered, eq-eqb a 3 e, fitting e, not-false fit f)
-
--- ---- one record, by the ways through `columns_by` and `still_fit`
-
-pub columns-first : (a x y columns : ℕ) → a ≡ 0 → x ≡ y → x ≡ pick (eqb a 0) y columns
-columns-first a x y columns e q = simp (eq-eqb a 0 e) q
-
-pub columns-later : (a y columns : ℕ) → (a ≡ 0 → ⊥) → columns ≡ pick (eqb a 0) y columns
-columns-later a y columns e = simp (ne_eqb a 0 e)
-
-pub unfit-before : (fit t : Bool) → not fit ≡ true → false ≡ (fit && t)
-unfit-before fit t e = ap (λ (u : Bool). u && t) (sym (not-true fit e))
-
-pub fit-before : (fit t r : Bool) → not fit ≡ false → r ≡ t → r ≡ (fit && t)
-fit-before fit t r e q = q ∙ ap (λ (u : Bool). u && t) (sym (not-false fit e))
+      pub judged_0 : place stage ≡ 3 → fit ≡ true → 0 ≡ first_answer s
+      unfolding first_answer misplaced unfit
+      judged_0 e f = simp (along_all s at h.along end, ordered, eq-eqb (place stage) 3 e, fitting e, f)

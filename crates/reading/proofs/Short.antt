@@ -14,35 +14,43 @@ use Rattle.rules.specs.Query.{whole_at, next_at, columns_of, text_of}
 use Rattle.laws.proofs.Choice.{decided, and_right}
 use Rattle.records.specs.Read.{read_at}
 use Rattle.query.specs.Order.{first_answer}
-use Rattle.records.specs.declared.Read.TheVariants.{Record as Whole, Cut}
+use Rattle.query.specs.declared.Stage.TheVariants.{Shape}
+use Rattle.std.specs.Prelude.{Some, None}
+use Rattle.records.specs.declared.Record.{Record as Read}
 use Rattle.query.proofs.Going.{at-start, this_fits, shape_next, shape_says}
 use Rattle.decode.proofs.Together.{first-whole, second-whole, head_is}
 use Rattle.decode.specs.Steps.{HeadOf}
 use Rattle.reading.specs.Reading.{Nodes, text_length, short_text}
 
+-- the record that the bytes at an index say
+read : List ℕ → ℕ → Read
+read s at = record { kind = le16 s (at + 2); start = at + 4; len = le16 s at; next = at + 4 + le16 s at }
+
 -- what is not cut is read whole
-whole-at : (s : List ℕ) (at : ℕ) → (read_at s at ≡ Cut → ⊥) → read_at s at ≡ Whole (le16 s (at + 2)) (at + 4) (le16 s at) (at + 4 + le16 s at)
-unfolding read_at next_at
+whole-at : (s : List ℕ) (at : ℕ) → (None ≡ read_at s at → ⊥) → Some (read s at) ≡ read_at s at
+unfolding read read_at next_at
 whole-at s at f = decided (whole_at s at) (λ t. simp t) (λ t. absurd (f (simp t)))
 
 module _ (s : List ℕ) (clean : first_answer s ≡ 0) where
-  first : read_at s 0 ≡ Whole (le16 s 2) 4 (le16 s 0) (4 + le16 s 0)
-  first = whole-at s 0 (first-whole s clean (read_at s 0) refl)
+  first : Some (read s 0) ≡ read_at s 0
+  first = whole-at s 0 (first-whole s clean)
 
   -- the first record has 6 bytes
-  shape_long : le16 s 0 ≡ 2
-  shape_long =
-      let k : le16 s 2 ≡ 1 = (shape_next s 0 0 0 (at-start s clean) (read_at s 0) (le16 s 2) 4 (le16 s 0) (4 + le16 s 0) refl first refl).0 in
-      (shape_says s (columns_of s) (le16 s 2) 4 (le16 s 0) (this_fits s 0 0 0 (at-start s clean) (read_at s 0) (le16 s 2) 4 (le16 s 0) (4 + le16 s 0) refl first) k).0
+  six : (read s 0).next ≡ 6
+  unfolding read
+  six =
+      let k : le16 s 2 ≡ 1 = (shape_next s 0 (read s 0) first (at-start s clean)).0 in
+      let l = (shape_says s (columns_of s) (le16 s 2) 4 (le16 s 0) (this_fits s Shape 0 (at-start s clean) (read s 0) first) k).0 in
+      omega arith
 
-  shape_first : read_at s 0 ≡ Whole (le16 s 2) 4 (le16 s 0) 6
-  shape_first = first ∙ ap (λ (n : ℕ). Whole (le16 s 2) 4 (le16 s 0) (4 + n)) shape_long
-
-  second : read_at s 6 ≡ Whole (le16 s 8) 10 (le16 s 6) (10 + le16 s 6)
-  second = whole-at s 6 (second-whole s clean (read_at s 0) refl (le16 s 2) 4 (le16 s 0) 6 shape_first (read_at s 6) refl)
+  second : Some (read s 6) ≡ read_at s (read s 0).next
+  second =
+      let e = ap (read_at s) (sym six) in
+      whole-at s 6 (λ n. second-whole s clean (read s 0) first (n ∙ e)) ∙ e
 
   head : HeadOf s (record { columns = get_or s 4 0; start = 10; len = le16 s 6; next = 10 + le16 s 6 })
-  head = head_is s clean (read_at s 0) refl (le16 s 2) 4 (le16 s 0) 6 shape_first (read_at s 6) refl (le16 s 8) 10 (le16 s 6) (10 + le16 s 6) second (get_or s 4 0) refl
+  unfolding read
+  head = head_is s clean (read s 0) first (read s 6) second (get_or s 4 0) refl
 
   pub text-length : length (text_of s) ≡ text_length s
   unfolding text_length

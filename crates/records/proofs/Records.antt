@@ -10,7 +10,7 @@ use lib.Dec.{leb, ltb}
 use lib.ListN.{length}
 use borrow.Author.Tests.{leb-true, le-leb, lt-leb}
 use Rattle.rules.specs.Basics.{le16}
-use Rattle.rules.specs.Query.{Record, whole_at, record_at, next_at, records_on, records_from, behind_on, behind_from, records, cut}
+use Rattle.rules.specs.Query.{Record, whole_at, record_at, next_at, records_on, records_from, behind_on, behind_from, cut}
 use Rattle.laws.proofs.Choice.{decided, and_right}
 use Rattle.records.specs.Read.{records_at}
 

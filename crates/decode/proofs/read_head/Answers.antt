@@ -1,22 +1,22 @@
 -- `decode::read_head` meets its contract by the laws of Together.
-use borrow.Author.Rules.{rules}
+use Rattle.std.proofs.Common.{rules}
 use Rattle.decode.proofs.Together.{first-inside, first-whole, shape_inside, second-inside, second-whole, head_is}
 use Rattle.decode.proofs.read_head.Goals as goal
 
 pub record_at-requires : goal.record_at-requires
 record_at-requires c = search (rules, first-inside)
 
-pub returns-in_default : goal.returns-in_default
-returns-in_default c = absurd (search (rules, first-whole))
+pub unreachable-requires : goal.unreachable-requires
+unreachable-requires c = first-whole _ c.requires c.in_default.ensures
 
 pub record_at-requires-2 : goal.record_at-requires-2
-record_at-requires-2 c = search (rules, second-inside)
+record_at-requires-2 c = second-inside _ c.requires _ c.in-Some.ensures
 
-pub returns-in_default-record_at : goal.returns-in_default-record_at
-returns-in_default-record_at c = absurd (search (rules, second-whole))
+pub unreachable-requires-in_default-record_at : goal.unreachable-requires-in_default-record_at
+unreachable-requires-in_default-record_at c = second-whole _ c.requires _ c.in-Some.ensures c.in_default-record_at.ensures
 
-pub byte-columns-requires : goal.byte-columns-requires
-byte-columns-requires c = search (rules, shape_inside)
+pub byte-requires : goal.byte-requires
+byte-requires c = shape_inside _ c.requires _ c.in-Some.ensures
 
 pub returns : goal.returns
-returns c = search (rules, head_is)
+returns c = head_is _ c.requires _ c.in-Some.ensures _ c.in-Some-record_at.ensures _ c.byte.ensures.0

@@ -1,25 +1,25 @@
 -- `decode::read_tail` meets its contract by the laws of Together.
-use borrow.Author.Rules.{rules}
+use Rattle.std.proofs.Common.{rules}
 use Rattle.decode.proofs.Together.{skip_there, skip_whole, skip_inside, target_inside, target_fits, measures_room, tail-is}
 use Rattle.decode.proofs.read_tail.Goals as goal
 
 pub record_at-requires : goal.record_at-requires
 record_at-requires c = search (rules, skip_there)
 
-pub returns-in_default : goal.returns-in_default
-returns-in_default c = absurd (search (rules, skip_whole))
+pub unreachable-requires : goal.unreachable-requires
+unreachable-requires c = skip_whole _ _ _ c.requires c.in_default.ensures
 
-pub byte-skip-requires : goal.byte-skip-requires
-byte-skip-requires c = search (rules, skip_inside)
+pub byte-requires : goal.byte-requires
+byte-requires c = skip_inside _ _ _ c.requires _ c.in-Some.ensures
 
-pub overflow_add-start : goal.overflow_add-start
-overflow_add-start c = search (rules, target_fits)
+pub overflow_add-record : goal.overflow_add-record
+overflow_add-record c = target_fits _ _ _ c.requires _ c.in-Some.ensures (search rules)
 
-pub byte-target-requires : goal.byte-target-requires
-byte-target-requires c = search (rules, target_inside)
+pub byte-requires-2 : goal.byte-requires-2
+byte-requires-2 c = target_inside _ _ _ c.requires _ c.in-Some.ensures
 
-pub put_measures-count-requires : goal.put_measures-count-requires
-put_measures-count-requires c = search (rules, measures_room)
+pub put_measures-requires : goal.put_measures-requires
+put_measures-requires c = measures_room _ _ _ c.requires _ c.in-Some.ensures
 
 pub returns : goal.returns
-returns c = search (rules, tail-is)
+returns c = tail-is _ _ _ c.requires _ c.in-Some.ensures _ c.byte.ensures.0 _ c.byte-2.ensures.0 _ _ c.put_measures.ensures

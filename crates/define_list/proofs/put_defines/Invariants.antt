@@ -1,11 +1,8 @@
--- `decode::put_defines` meets its contract by the laws of Defines and Reading. The invariant is
+-- `define_list::put_defines` meets its contract by the laws of Defines and Reading. The invariant is
 -- `Lettering`, of each letter's entry, of what was told of two and of the largest letter; the bytes
 -- left fall.
-use Prim.Native.Nat.{◌-◌}
-use lib.ListN.{length}
-use borrow.Author.Rules.{rules}
-use Rattle.define_list.proofs.Defines.{Lettering, lettering_none, lettering_end, lettering_cut, lettering_room, lettering_more, lettering_over}
-use Rattle.records.proofs.Reading.{fewer}
+use Rattle.std.proofs.Common.{◌-◌, length}
+use Rattle.define_list.proofs.Defines.{Lettering}
 use Rattle.define_list.proofs.put_defines.Given as goal
 
 abbrev pub invariant-loop-at : goal.invariant-loop-at

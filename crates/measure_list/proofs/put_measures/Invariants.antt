@@ -1,10 +1,7 @@
 -- `measure_list::put_measures` meets its contract by the laws of Counting and Reading. The
 -- invariant is `Counting`, of the measures written and of those to come; the bytes left fall.
-use Prim.Native.Nat.{◌-◌}
-use lib.ListN.{length}
-use borrow.Author.Rules.{rules}
-use Rattle.measure_list.proofs.Counting.{Counting, counting_none, counting_bytes, counting_room, counting_more, counting_cut, counting_all}
-use Rattle.records.proofs.Reading.{fewer}
+use Rattle.std.proofs.Common.{◌-◌, length}
+use Rattle.measure_list.proofs.Counting.{Counting}
 use Rattle.measure_list.proofs.put_measures.Given as goal
 
 abbrev pub invariant-loop-at : goal.invariant-loop-at

@@ -1,25 +1,26 @@
--- `named::measure_count` meets its contract by the laws of Shapes. The bytes left fall.
-use Prim.Native.Nat.{◌-◌}
-use lib.ListN.{length}
-use borrow.Author.Rules.{rules}
+-- `named::measure_count` meets its contract by the laws of Shapes.
+use Rattle.std.proofs.Common.{rules, sym}
 use Rattle.records.proofs.Reading.{fewer}
-use Rattle.named.proofs.Shapes.{Counting, counting_none, counting_more, counting_cut, counting_all, counting_short, counting_fits}
+use Rattle.named.proofs.Shapes.{counting_none, counting_more, counting_other, counting_cut, counting_all}
 use Rattle.named.proofs.measure_count.Goals as goal
 
 pub loop-at-init : goal.loop-at-init
 loop-at-init c = counting_none _
 
-pub returns-in_default : goal.returns-in_default
-returns-in_default c = (search (rules, counting_cut), search (rules, counting_short))
+pub loop-at-smaller-then-is_measure : goal.loop-at-smaller-then-is_measure
+loop-at-smaller-then-is_measure c = search (rules, fewer)
 
-pub counted-count-requires : goal.counted-count-requires
-counted-count-requires c = search (rules, counting_fits)
+pub loop-at-preserved-then-is_measure : goal.loop-at-preserved-then-is_measure
+loop-at-preserved-then-is_measure c = counting_more _ _ _ c.loop-at.invariant _ c.in-Some.ensures (sym c.if-is_measure.ensures)
 
 pub loop-at-smaller : goal.loop-at-smaller
 loop-at-smaller c = search (rules, fewer)
 
 pub loop-at-preserved : goal.loop-at-preserved
-loop-at-preserved c = search (rules, counting_more)
+loop-at-preserved c = counting_other _ _ _ c.loop-at.invariant _ c.in-Some.ensures (sym c.if-is_measure.ensures)
 
-pub returns : goal.returns
-returns c = (search (rules, counting_all), search (rules, counting_short))
+pub returns-after-loop-at : goal.returns-after-loop-at
+returns-after-loop-at c = counting_all _ _ _ c.loop-at.invariant (search rules)
+
+pub returns-in_default : goal.returns-in_default
+returns-in_default c = counting_cut _ _ _ c.loop-at.invariant c.in_default.ensures

@@ -1,9 +1,6 @@
 -- `named::measure_count` meets its contract by the laws of Shapes. The bytes left fall.
-use Prim.Native.Nat.{◌-◌}
-use lib.ListN.{length}
-use borrow.Author.Rules.{rules}
-use Rattle.records.proofs.Reading.{fewer}
-use Rattle.named.proofs.Shapes.{Counting, counting_none, counting_more, counting_cut, counting_all, counting_short, counting_fits}
+use Rattle.std.proofs.Common.{◌-◌, length}
+use Rattle.named.proofs.Shapes.{Counting}
 use Rattle.named.proofs.measure_count.Given as goal
 
 abbrev pub invariant-loop-at : goal.invariant-loop-at

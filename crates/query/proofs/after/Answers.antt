@@ -1,41 +1,48 @@
 -- `query::after` meets its contract by the laws of Order.
-use native.Mathlib.Omega.{arith}
-use borrow.Author.Rules.{rules}
-use Rattle.query.proofs.Order.{shape_yes, shape_no, text-yes, text-no, skip_yes, skip_no, defines-full, defines-more, measures_other, measures_full, measures_more, out_stays}
+use Rattle.std.proofs.Common.{sym, ap, ◌∙◌, arith}
+use Rattle.records.specs.declared.Kind.TheVariants.{Shape, Text, Skip, Measure}
+use Rattle.records.specs.Kinds.{number_of}
+use Rattle.records.proofs.Numbers.{number_only}
+use Rattle.query.proofs.Order.{shape_yes, shape_no, text_yes, text_no, skip_yes, defines_more, defines_other, defines_full, measures_more, measures_other, measures_full, unknown_out, out_stays}
 use Rattle.query.proofs.after.Goals as goal
 
-pub returns-then-kind-eq1 : goal.returns-then-kind-eq1
-returns-then-kind-eq1 c = shape_yes _ _ _ (omega arith) (omega arith)
+pub returns-in_default : goal.returns-in_default
+returns-in_default c = unknown_out _ c.in_default.ensures _
 
-pub returns-then-at-eq0 : goal.returns-then-at-eq0
-returns-then-at-eq0 c = shape_no _ _ _ _ _ (omega arith) (omega arith) (λ e. omega arith)
+pub returns-in-Shape-Shape : goal.returns-in-Shape-Shape
+returns-in-Shape-Shape c = rw c.in-Shape-Shape.is-0 (shape_yes _ (c.in-Some.ensures ∙ ap number_of c.in-Shape-Shape.is-1))
 
-pub returns-then-kind-eq2 : goal.returns-then-kind-eq2
-returns-then-kind-eq2 c = text-yes _ _ _ (omega arith) (omega arith)
+pub returns-in-Text-Text : goal.returns-in-Text-Text
+returns-in-Text-Text c = rw c.in-Text-Text.is-0 (text_yes _ (c.in-Some.ensures ∙ ap number_of c.in-Text-Text.is-1))
 
-pub returns-then-at-eq1 : goal.returns-then-at-eq1
-returns-then-at-eq1 c = text-no _ _ _ _ _ (omega arith) (omega arith) (λ e. omega arith)
+pub returns-in-Defines-Skip : goal.returns-in-Defines-Skip
+returns-in-Defines-Skip c = rw c.in-Defines-Skip.is-0 (skip_yes _ _ (c.in-Some.ensures ∙ ap number_of c.in-Defines-Skip.is-1))
 
-pub returns-then-kind-eq4 : goal.returns-then-kind-eq4
-returns-then-kind-eq4 c = skip_yes _ _ _ (omega arith) (omega arith)
+pub returns-in-Defines-default : goal.returns-in-Defines-default
+returns-in-Defines-default c = rw c.in-Defines-default.is-0 (defines_more _ _ (sym c.is_define.ensures ∙ c.if-is_define.true) (omega arith))
 
-pub returns-then-not-is_define : goal.returns-then-not-is_define
-returns-then-not-is_define c = skip_no _ _ _ _ _ (omega arith) _ c.is_define.ensures (search rules) (omega arith) (λ e. omega arith)
+pub returns-in-Measures-Measure : goal.returns-in-Measures-Measure
+returns-in-Measures-Measure c = rw c.in-Measures-Measure.is-0 (measures_more _ _ (c.in-Some.ensures ∙ ap number_of c.in-Measures-Measure.is-1) (omega arith))
 
-pub returns-then-left-eq0 : goal.returns-then-left-eq0
-returns-then-left-eq0 c = defines-full _ _ _ _ _ (omega arith) (omega arith) (λ e. omega arith) (omega arith)
+pub returns-in_default-2 : goal.returns-in_default-2
+returns-in_default-2 c = rw c.in_default-2.is-0 (shape_no _ (λ q. c.in_default-2.not-Shape-1 (number_only _ Shape (sym c.in-Some.ensures ∙ q))))
 
-pub returns-then-at-eq2 : goal.returns-then-at-eq2
-returns-then-at-eq2 c = defines-more _ _ _ _ c.is_define.ensures (search rules) (omega arith) (omega arith)
+pub returns-in_default-2-2 : goal.returns-in_default-2-2
+returns-in_default-2-2 c = rw c.in_default-2.is-0 (text_no _ (λ q. c.in_default-2.not-Text-1 (number_only _ Text (sym c.in-Some.ensures ∙ q))))
 
-pub returns-then-kind-ne5 : goal.returns-then-kind-ne5
-returns-then-kind-ne5 c = measures_other _ _ _ _ _ (omega arith) (omega arith) (λ e. omega arith)
+pub returns-in_default-2-3 : goal.returns-in_default-2-3
+returns-in_default-2-3 c =
+    rw c.in-Defines-default.is-0 (defines_other _ _ (sym c.is_define.ensures ∙ c.if-is_define.false) (λ q. c.in_default-2.not-Skip-1 (number_only _ Skip (sym c.in-Some.ensures ∙ q))))
 
-pub returns-then-left-eq0-2 : goal.returns-then-left-eq0-2
-returns-then-left-eq0-2 c = measures_full _ _ _ _ _ (omega arith) (omega arith) (omega arith)
+pub returns-in_default-2-4 : goal.returns-in_default-2-4
+returns-in_default-2-4 c =
+    rw c.in-Defines-default.is-0 (defines_full _ _ (omega arith) (λ q. c.in_default-2.not-Skip-1 (number_only _ Skip (sym c.in-Some.ensures ∙ q))))
 
-pub returns-then-at-eq3 : goal.returns-then-at-eq3
-returns-then-at-eq3 c = measures_more _ _ _ (omega arith) (omega arith) (omega arith)
+pub returns-in_default-2-5 : goal.returns-in_default-2-5
+returns-in_default-2-5 c = rw c.in-Measures-Measure.is-0 (measures_full _ _ (omega arith))
 
-pub returns : goal.returns
-returns c = out_stays _ _ _ _ _ (omega arith) (λ e. omega arith) (λ e. omega arith) (λ e. omega arith) (λ e. omega arith)
+pub returns-in_default-2-6 : goal.returns-in_default-2-6
+returns-in_default-2-6 c = rw c.in_default-2.is-0 (measures_other _ _ (λ q. c.in_default-2.not-Measure-1 (number_only _ Measure (sym c.in-Some.ensures ∙ q))))
+
+pub returns-in_default-2-7 : goal.returns-in_default-2-7
+returns-in_default-2-7 c = rw c.in_default-2.is-0 (out_stays _)
