@@ -11,8 +11,8 @@ use native.Mathlib.Omega.{arith}
 use lib.Dec.{eqb}
 use lib.ListN.{length, get_or, take, drop}
 use borrow.Author.Tests.{eq-eqb, ne_eqb}
-use Rattle.std.specs.Prelude.{Some, None}
-use Rattle.records.specs.declared.Record.{Record as Read}
+use Rattle.records.specs.declared.Read.TheVariants.{Record as whole, Cut}
+use Rattle.records.specs.declared.Record.{Record as Whole}
 use Rattle.rules.specs.Basics.{is_letter}
 use Rattle.rules.specs.Query.{Record, records, field, first_of_kind, columns_of, is_define, defined, text_of, condition_from, measures_from, parts}
 use Rattle.records.specs.Read.{record_of, records_at, read_at}
@@ -59,10 +59,10 @@ module _ (s : List ℕ) (clean : first_answer s ≡ 0) where
   pub first-inside : 0 < length s
   first-inside = before-end s Shape 0 start (λ e. omega arith)
 
-  pub first-whole : None ≡ read_at s 0 → ⊥
+  pub first-whole : Cut ≡ read_at s 0 → ⊥
   first-whole e = not-cut s Shape 0 start (λ w. omega arith) e
 
-  module _ (x1 : Read) (e1 : Some x1 ≡ read_at s 0) where
+  module _ (x1 : Whole) (e1 : whole x1 ≡ read_at s 0) where
     shape : (x1.kind ≡ 1) × Ahead s Text x1.next
     shape = shape_next s 0 x1 e1 start
 
@@ -82,10 +82,10 @@ module _ (s : List ℕ) (clean : first_answer s ≡ 0) where
     pub second-inside : x1.next < length s
     second-inside = before-end s Text x1.next shape.1 (λ e. omega arith)
 
-    pub second-whole : None ≡ read_at s x1.next → ⊥
+    pub second-whole : Cut ≡ read_at s x1.next → ⊥
     second-whole e = not-cut s Text x1.next shape.1 (λ w. omega arith) e
 
-    module _ (x2 : Read) (e2 : Some x2 ≡ read_at s x1.next) where
+    module _ (x2 : Whole) (e2 : whole x2 ≡ read_at s x1.next) where
       text : (x2.kind ≡ 2) × Ahead s (Defines 26) x2.next
       text = text-next s x1.next x2 e2 shape.1
 
@@ -162,10 +162,10 @@ module _ (s : List ℕ) (at : ℕ) (measures₀ : List ℕ) (room : TailRoom s a
   pub skip_there : at < length s
   skip_there = before-end s (Defines 0) at room.ahead (λ e. omega arith)
 
-  pub skip_whole : None ≡ read_at s at → ⊥
+  pub skip_whole : Cut ≡ read_at s at → ⊥
   skip_whole e = not-cut s (Defines 0) at room.ahead (λ w. omega arith) e
 
-  module _ (x : Read) (e : Some x ≡ read_at s at) where
+  module _ (x : Whole) (e : whole x ≡ read_at s at) where
     skip : (x.kind ≡ 4) × Ahead s (Measures 8) x.next
     skip = skip_next s at x e room.ahead
 

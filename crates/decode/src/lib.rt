@@ -12,7 +12,7 @@ ghost use Rattle.decode.specs.Steps.{HeadOf, TailRoom, TailOf};
 
 use define_list::put_defines;
 use measure_list::put_measures;
-use records::{byte, record_at};
+use records::{Read, byte, record_at};
 
 // What a query says besides its letters and measures: the columns, where the pattern's text lies,
 // the skip mode, the letter that the skip names (0 for none), how many measures there are, whether
@@ -44,10 +44,10 @@ fn read_head(s: &[u8]) -> Head
     requires { first_answer s.now ≡ 0 }
     ensures { HeadOf s.now result }
 {
-    let Some(shape) = record_at(s, 0) else {
+    let Read::Record(shape) = record_at(s, 0) else {
         unreachable!()
     };
-    let Some(text) = record_at(s, shape.next) else {
+    let Read::Record(text) = record_at(s, shape.next) else {
         unreachable!()
     };
     Head {
@@ -71,7 +71,7 @@ fn read_tail(s: &[u8], at: usize, measures: &mut [u8; 24]) -> Tail
     requires { TailRoom s.now at measures.old }
     ensures { TailOf s.now at measures.old measures.new result }
 {
-    let Some(record) = record_at(s, at) else {
+    let Read::Record(record) = record_at(s, at) else {
         unreachable!()
     };
     Tail {

@@ -10,8 +10,8 @@ use lib.Dec.{eqb}
 use lib.ListN.{length, get_or, set, length-set, replicate, length-replicate, get_or-replicate}
 use lib.Seq.{get_or-set_same, get_or-set_other}
 use borrow.Author.Tests.{eq-eqb, ne_eqb, eqb-true, eqb-false}
-use Rattle.std.specs.Prelude.{Some, None}
-use Rattle.records.specs.declared.Record.{Record as Read}
+use Rattle.records.specs.declared.Read.TheVariants.{Record as whole, Cut}
+use Rattle.records.specs.declared.Record.{Record as Whole}
 use Rattle.rules.specs.Basics.{pick, keep, le16}
 use Rattle.rules.specs.Rows.{all_of}
 use Rattle.rules.specs.Query.{Record, record_at, kinds, one_of, some_of, none_left, is_define, is_measure, field, first_of_kind, columns_of, defined, comparisons_of, entries_of, condition_of, condition_from, measures_from}
@@ -158,10 +158,10 @@ module _ (s : List ℕ) (from : ℕ) where
     pub lettering_end : length s ≤ at → PutDefines s from defines (record { at = at; twice = twice; letters = letters })
     lettering_end w = absurd (let z = lettering_inside in omega arith)
 
-    pub lettering_cut : None ≡ read_at s at → PutDefines s from defines (record { at = at; twice = twice; letters = letters })
+    pub lettering_cut : Cut ≡ read_at s at → PutDefines s from defines (record { at = at; twice = twice; letters = letters })
     lettering_cut e = absurd (not-cut s (Defines h.left) at h.ahead (λ w. omega arith) e)
 
-    module _ (x : Read) (e : Some x ≡ read_at s at) where
+    module _ (x : Whole) (e : whole x ≡ read_at s at) where
       says : x.kind ≡ 3 → Says s (columns_of s) x.start x.len
       says k3 = define_says s (columns_of s) x.kind x.start x.len (this_fits s (Defines h.left) at h.ahead x e) k3
 

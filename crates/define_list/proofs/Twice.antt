@@ -10,8 +10,8 @@ use lib.Dec.{eqb, leb}
 use lib.ListN.{length, get_or, set, replicate}
 use lib.Seq.{get_or-set_same, get_or-set_other}
 use borrow.Author.Tests.{eq-eqb, ne_eqb, eqb-true, eqb-false, le-leb, leb-true}
-use Rattle.std.specs.Prelude.{Some}
-use Rattle.records.specs.declared.Record.{Record as Read}
+use Rattle.records.specs.declared.Read.TheVariants.{Record as whole}
+use Rattle.records.specs.declared.Record.{Record as Whole}
 use Rattle.rules.specs.Basics.{pick, keep, has, repeats}
 use Rattle.rules.specs.Query.{field, records, is_define, defined, doubled}
 use Rattle.laws.proofs.Choice.{decided}
@@ -129,7 +129,7 @@ module _ (s : List ℕ) where
   twice-over defines at twice h e = sym (or-false twice) ∙ ap (λ (xs : List ℕ). twice || again defines xs) (sym e) ∙ h.same
 
   -- the letter of the DEFINE in front
-  in_front : (at : ℕ) (x : Read) → Some x ≡ read_at s at → is_define x.kind ≡ true → defined s (records_at s at) ≡ get_or s x.start 0 ∷ defined s (records_at s x.next)
+  in_front : (at : ℕ) (x : Whole) → whole x ≡ read_at s at → is_define x.kind ≡ true → defined s (records_at s at) ≡ get_or s x.start 0 ∷ defined s (records_at s x.next)
   unfolding defined
   in_front at x e dk =
       ap (defined s) (read_more s at x e) ∙ ap (λ (t : Bool). keep t (field s (record_of x.kind x.start x.len) 0) (defined s (records_at s x.next))) dk
@@ -146,7 +146,7 @@ module _ (s : List ℕ) where
       (λ t. let c0 = eqb-false (get_or defines (get_or s b 0 - 65) 0) 0 t in
       rw (d.taken c0).1 (again-taken defines (get_or s b 0) low xs (is-taken defines (get_or s b 0) low c0)))
 
-  pub twice-more : (defines : List ℕ) (at : ℕ) (x : Read) → Some x ≡ read_at s at → is_define x.kind ≡ true → 65 ≤ get_or s x.start 0 → get_or s x.start 0 ≤ 90 → 0 < x.start → length defines ≡ 26
+  pub twice-more : (defines : List ℕ) (at : ℕ) (x : Whole) → whole x ≡ read_at s at → is_define x.kind ≡ true → 65 ≤ get_or s x.start 0 → get_or s x.start 0 ≤ 90 → 0 < x.start → length defines ≡ 26
       → (defines' : List ℕ) (before twice twice' : Bool) → PutDefine s x.start defines defines' before → twice' ≡ (twice || before) → Twice s defines at twice → Twice s defines' x.next twice'
   twice-more defines at x e dk low high b0 long defines' before twice twice' d et h = record {
     same =

@@ -5,7 +5,7 @@
 
 ghost use Rattle.define_list.specs.Defines.{DefineRoom, PutDefine, DefinesRoom, PutDefines};
 
-use records::{byte, is_define, record_at};
+use records::{Read, byte, is_define, record_at};
 
 // The DEFINE whose body starts at this index; answers whether its letter had one before. The first
 // DEFINE of a letter counts.
@@ -41,7 +41,7 @@ pub fn put_defines(s: &[u8], from: usize, defines: &mut [usize; 26]) -> Behind
     let mut twice = false;
     let mut letters = 0;
     while at < s.len() {
-        let Some(record) = record_at(s, at) else {
+        let Read::Record(record) = record_at(s, at) else {
             break;
         };
         if !is_define(record.kind) {

@@ -8,8 +8,8 @@ use native.Mathlib.Omega.{arith}
 use lib.Dec.{ltb}
 use lib.ListN.{length, get_or}
 use borrow.Author.Tests.{eq-eqb, ltb-true, ltb-false}
-use Rattle.std.specs.Prelude.{Some, None}
-use Rattle.records.specs.declared.Record.{Record as Read}
+use Rattle.records.specs.declared.Read.TheVariants.{Record as whole, Cut}
+use Rattle.records.specs.declared.Record.{Record as Whole}
 use Rattle.rules.specs.Basics.{keep, tabulate}
 use Rattle.rules.specs.Query.{Record, columns_of, Measure, measure_at, measures_from, function_fits}
 use Rattle.laws.proofs.Choice.{decided}
@@ -52,10 +52,10 @@ module _ (s : List ℕ) (from : ℕ) (measures₀ : List ℕ) where
     pub counting_all : length s ≤ at → PutMeasures s from measures₀ measures count
     counting_all w = ended (records-end s at w)
 
-    pub counting_cut : None ≡ read_at s at → PutMeasures s from measures₀ measures count
+    pub counting_cut : Cut ≡ read_at s at → PutMeasures s from measures₀ measures count
     counting_cut e = ended (read-cut s at e)
 
-    module _ (x : Read) (e : Some x ≡ read_at s at) where
+    module _ (x : Whole) (e : whole x ≡ read_at s at) where
       next : (x.kind ≡ 5) × (0 < 8 - count) × Ahead s (Measures (8 - count - 1)) x.next
       next = measure_next s at x e (8 - count) h.ahead
 

@@ -8,7 +8,7 @@ ghost use Rattle.rules.specs.Query.{measure_at};
 ghost use Rattle.table.specs.Measures.{measure_in};
 ghost use Rattle.measure_list.specs.Measures.{measure_of, set_three, MeasuresRoom, PutMeasures, MeasuresTabled};
 
-use records::record_at;
+use records::{Read, record_at};
 
 // A measure of the query: the number of its function, the letter of its rows or 0 for all rows, and
 // its column. The function is a number and no enum, since `measure_at` promises the bytes of the
@@ -86,7 +86,7 @@ pub fn put_measures(s: &[u8], from: usize, measures: &mut [u8; 24]) -> usize
     let mut at = from;
     let mut count = 0;
     while at < s.len() {
-        let Some(record) = record_at(s, at) else {
+        let Read::Record(record) = record_at(s, at) else {
             break;
         };
         put_measure(measure_of(s, record.start), measures, count);

@@ -11,8 +11,8 @@ use borrow.Author.Tests.{not-false}
 use Rattle.rules.specs.Basics.{pick, keep}
 use Rattle.rules.specs.Query.{Record, whole_at, record_at, next_at, records_on, records_from, records, kinds, one_of, some_of, none_left, is_define, is_measure, in_order, cut, misplaced, unfit, first_of_kind, field, columns_of, measure_at, measures_from, parts}
 use Rattle.laws.proofs.Choice.{and_left}
-use Rattle.std.specs.Prelude.{Some, None}
-use Rattle.records.specs.declared.Record.{Record as Read}
+use Rattle.records.specs.declared.Read.TheVariants.{Record as whole, Cut}
+use Rattle.records.specs.declared.Record.{Record as Whole}
 use Rattle.records.specs.Read.{records_at, read_at}
 use Rattle.records.proofs.Reading.{found, read_more, read-cut}
 use Rattle.records.proofs.Records.{records-end}
@@ -79,7 +79,7 @@ unfolding records_at parts records
 counting_none s = record { upto = omega arith; few = omega arith; sum = omega arith }
 
 module _ (s : List ℕ) (at count : ℕ) (c : Counting s at count) where
-  module _ (x : Read) (e : Some x ≡ read_at s at) where
+  module _ (x : Whole) (e : whole x ≡ read_at s at) where
     front : measures_from s (records_at s at) ≡ keep (is_measure x.kind) (measure_at s x.start) (measures_from s (records_at s x.next))
     unfolding measures_from is_measure
     front = ap (measures_from s) (read_more s at x e)
@@ -105,7 +105,7 @@ module _ (s : List ℕ) (at count : ℕ) (c : Counting s at count) where
       let g : length (measures_from s (records_at s at)) ≡ 0 = ap (λ (rs : List Record). length (measures_from s rs)) e in
       (omega (arith, c.sum, g), omega (arith, c.few, c.upto))
 
-  pub counting_cut : None ≡ read_at s at → (count ≡ length (parts s).measures) × (4 * count ≤ length s)
+  pub counting_cut : Cut ≡ read_at s at → (count ≡ length (parts s).measures) × (4 * count ≤ length s)
   counting_cut e = ended (read-cut s at e)
 
   pub counting_all : length s ≤ at → (count ≡ length (parts s).measures) × (4 * count ≤ length s)

@@ -8,7 +8,7 @@ ghost use Rattle.rules.specs.Query.{parts};
 ghost use Rattle.named.specs.Outside.{is_three};
 
 use query::first_answer;
-use records::{is_measure, record_at};
+use records::{Read, is_measure, record_at};
 
 // The shape's count of columns, in every query whose records are in order.
 pub fn shape_of(query: &[u8]) -> usize
@@ -41,7 +41,7 @@ pub fn measure_count(query: &[u8]) -> usize
     let mut at = 0;
     let mut count = 0;
     while at < query.len() {
-        let Some(record) = record_at(query, at) else {
+        let Read::Record(record) = record_at(query, at) else {
             break;
         };
         if is_measure(record.kind) {

@@ -8,8 +8,8 @@ use native.Mathlib.Omega.{arith}
 use lib.Dec.{eqb, leb}
 use lib.ListN.{length, get_or}
 use borrow.Author.Tests.{eq-eqb, ne_eqb, eqb-true, leb-true, leb-false, not-false}
-use Rattle.std.specs.Prelude.{Some, None}
-use Rattle.records.specs.declared.Record.{Record as Read}
+use Rattle.records.specs.declared.Read.TheVariants.{Record as whole, Cut}
+use Rattle.records.specs.declared.Record.{Record as Whole}
 use Rattle.rules.specs.Basics.{pick, in_range, is_letter, every, every_below}
 use Rattle.rules.specs.Query.{Record, records, one_of, some_of, none_left, is_define, is_measure, in_order, kinds, misplaced, field, shape_fits, text_fits, comparison_fits, define_fits, entries_fit, entries_end, read_entries, entries_of, leaves_one, postfix_fits, skip_fits, function_fits, measure_fits, record_fits, columns_of, unfit, cut}
 use Rattle.laws.proofs.Choice.{decided, clash, and_left, and_right}
@@ -79,10 +79,10 @@ module _ (s : List ℕ) (stage : Stage) (at : ℕ) (h : Ahead s stage at) where
   pub before-end : (place stage ≡ 3 → ⊥) → at < length s
   before-end f = decided (leb (suc at) (length s)) (λ t. leb-true (suc at) (length s) t) (λ t. absurd (f (ended (records-end s at (let y = leb-false (suc at) (length s) t in omega arith)))))
 
-  pub not-cut : (place stage ≡ 3 → ⊥) → None ≡ read_at s at → ⊥
+  pub not-cut : (place stage ≡ 3 → ⊥) → Cut ≡ read_at s at → ⊥
   not-cut f e = f (ended (read-cut s at e))
 
-  module _ (x : Read) (e : Some x ≡ read_at s at) where
+  module _ (x : Whole) (e : whole x ≡ read_at s at) where
     ordered : rest_of stage (x.kind ∷ kinds (records_at s x.next)) ≡ true
     unfolding kinds
     ordered = sym (ap (λ (y : List Record). rest_of stage (kinds y)) (read_more s at x e)) ∙ h.order
@@ -98,7 +98,7 @@ module _ (s : List ℕ) (stage : Stage) (at : ℕ) (h : Ahead s stage at) where
     go_on stage' o = record { upto = (found s at x e).inside; order = o; fits = and_right (record_fits s (columns_of s) (record_of x.kind x.start x.len)) _ both-fit }
 
 -- the record at an index, by the stage there
-module _ (s : List ℕ) (at : ℕ) (x : Read) (e : Some x ≡ read_at s at) where
+module _ (s : List ℕ) (at : ℕ) (x : Whole) (e : whole x ≡ read_at s at) where
   ks : List ℕ
   ks = kinds (records_at s x.next)
 

@@ -9,8 +9,8 @@ use native.Mathlib.Omega.{arith}
 use lib.Dec.{eqb}
 use lib.ListN.{length, get_or}
 use borrow.Author.Tests.{eq-eqb, ne_eqb, eqb-true, eqb-false}
-use Rattle.std.specs.Prelude.{Some, None}
-use Rattle.records.specs.declared.Record.{Record as Read}
+use Rattle.records.specs.declared.Read.TheVariants.{Record as whole, Cut}
+use Rattle.records.specs.declared.Record.{Record as Whole}
 use Rattle.rules.specs.Basics.{pick, every}
 use Rattle.rules.specs.Query.{Record, records, one_of, some_of, none_left, is_define, is_measure, in_order, kinds, misplaced, first_of_kind, record_fits, columns_of, unfit}
 use Rattle.laws.proofs.Choice.{decided}
@@ -182,7 +182,7 @@ module _ (s : List ℕ) where
   unfolding rest_of in_order records records_at
   judged_none = record { along = along_none s; order = refl; first = λ e. refl; shape = λ h g. absurd (omega arith); fits = λ h. refl }
 
-  module _ (at : ℕ) (stage : Stage) (columns : ℕ) (fit : Bool) (h : Judged s at stage columns fit) (x : Read) (e : Some x ≡ read_at s at) where
+  module _ (at : ℕ) (stage : Stage) (columns : ℕ) (fit : Bool) (h : Judged s at stage columns fit) (x : Whole) (e : whole x ≡ read_at s at) where
     columns-known : (c : ℕ) → c ≡ pick (eqb (place stage) 0) (get_or s x.start 0) columns → place stage < 4 → (place stage ≡ 0 → x.kind ≡ 1) → c ≡ columns_of s
     columns-known c ec g f =
         decided (eqb (place stage) 0)
@@ -213,7 +213,7 @@ module _ (s : List ℕ) where
   -- ---- the three answers
 
   module _ (at : ℕ) (stage : Stage) (columns : ℕ) (fit : Bool) (h : Judged s at stage columns fit) where
-    pub judged_cut : at < length s → None ≡ read_at s at → 1 ≡ first_answer s
+    pub judged_cut : at < length s → Cut ≡ read_at s at → 1 ≡ first_answer s
     unfolding first_answer
     judged_cut g e = simp (along_cut s at h.along g e)
 

@@ -8,7 +8,7 @@ ghost use Rattle.rules.specs.Basics.{pick};
 ghost use Rattle.query.specs.Order.{place, Follows, first_answer};
 
 use fields::record_fits;
-use records::{Kind, is_define, record_at};
+use records::{Kind, Read, is_define, record_at};
 
 // Where a pass stands in the order of kinds, by what it expects: the shape, the text, up to `left`
 // DEFINEs and the skip, or up to `left` measures; nothing behind a kind out of order.
@@ -63,7 +63,7 @@ pub fn first_answer(s: &[u8]) -> usize
     let mut columns = 0;
     let mut fit = true;
     while at < s.len() {
-        let Some(record) = record_at(s, at) else {
+        let Read::Record(record) = record_at(s, at) else {
             return 1;
         };
         columns = columns_by(s, stage, columns, record.start);

@@ -15,24 +15,24 @@ use Rattle.laws.proofs.Choice.{decided, and_right}
 use Rattle.records.specs.Read.{read_at}
 use Rattle.query.specs.Order.{first_answer}
 use Rattle.query.specs.declared.Stage.TheVariants.{Shape}
-use Rattle.std.specs.Prelude.{Some, None}
-use Rattle.records.specs.declared.Record.{Record as Read}
+use Rattle.records.specs.declared.Read.TheVariants.{Record as whole, Cut}
+use Rattle.records.specs.declared.Record.{Record as Whole}
 use Rattle.query.proofs.Going.{at-start, this_fits, shape_next, shape_says}
 use Rattle.decode.proofs.Together.{first-whole, second-whole, head_is}
 use Rattle.decode.specs.Steps.{HeadOf}
 use Rattle.reading.specs.Reading.{Nodes, text_length, short_text}
 
 -- the record that the bytes at an index say
-read : List ℕ → ℕ → Read
+read : List ℕ → ℕ → Whole
 read s at = record { kind = le16 s (at + 2); start = at + 4; len = le16 s at; next = at + 4 + le16 s at }
 
 -- what is not cut is read whole
-whole-at : (s : List ℕ) (at : ℕ) → (None ≡ read_at s at → ⊥) → Some (read s at) ≡ read_at s at
+whole-at : (s : List ℕ) (at : ℕ) → (Cut ≡ read_at s at → ⊥) → whole (read s at) ≡ read_at s at
 unfolding read read_at next_at
 whole-at s at f = decided (whole_at s at) (λ t. simp t) (λ t. absurd (f (simp t)))
 
 module _ (s : List ℕ) (clean : first_answer s ≡ 0) where
-  first : Some (read s 0) ≡ read_at s 0
+  first : whole (read s 0) ≡ read_at s 0
   first = whole-at s 0 (first-whole s clean)
 
   -- the first record has 6 bytes
@@ -43,7 +43,7 @@ module _ (s : List ℕ) (clean : first_answer s ≡ 0) where
       let l = (shape_says s (columns_of s) (le16 s 2) 4 (le16 s 0) (this_fits s Shape 0 (at-start s clean) (read s 0) first) k).0 in
       omega arith
 
-  second : Some (read s 6) ≡ read_at s (read s 0).next
+  second : whole (read s 6) ≡ read_at s (read s 0).next
   second =
       let e = ap (read_at s) (sym six) in
       whole-at s 6 (λ n. second-whole s clean (read s 0) first (n ∙ e)) ∙ e

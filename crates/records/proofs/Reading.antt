@@ -7,29 +7,30 @@ use Prim.Native.Nat.{ℕ, ◌+◌, ◌-◌, ◌≤◌, ◌<◌}
 use native.Mathlib.Omega.{arith}
 use lib.ListN.{length, get_or, get_or-eq_default}
 use borrow.Author.Tests.{lt-ltb, le-ltb}
-use Rattle.std.specs.Prelude.{Option, Some, None}
-use Rattle.records.specs.declared.Record.{Record as Read}
+use Rattle.records.specs.declared.Read.{Read}
+use Rattle.records.specs.declared.Read.TheVariants.{Record as whole, Cut}
+use Rattle.records.specs.declared.Record.{Record as Whole}
 use Rattle.rules.specs.Basics.{pick, le16}
 use Rattle.rules.specs.Query.{Record, whole_at, record_at, next_at, field, cut}
 use Rattle.records.specs.Read.{records_at, record_of, read_at}
 use Rattle.records.proofs.Records.{behind_at, whole-yes, whole-short, whole-past, within, records-more, records-none, behind_more, cut-is}
 
 module _ (s : List ℕ) (at : ℕ) where
-  pub cut-header : at < length s → length s - at < 4 → None ≡ read_at s at
+  pub cut-header : at < length s → length s - at < 4 → Cut ≡ read_at s at
   unfolding read_at
   cut-header h g = simp (whole-short s at (omega arith))
 
-  pub cut-body : 4 ≤ length s - at → length s - (at + 4) < le16 s at → None ≡ read_at s at
+  pub cut-body : 4 ≤ length s - at → length s - (at + 4) < le16 s at → Cut ≡ read_at s at
   unfolding read_at
   cut-body h g = simp (whole-past s at (omega arith) (omega arith))
 
   pub is_whole : (k l : ℕ) → k ≡ le16 s (at + 2) → l ≡ le16 s at → at < length s → 4 ≤ length s - at → l ≤ length s - (at + 4)
-      → Some (record { kind = k; start = at + 4; len = l; next = at + 4 + l }) ≡ read_at s at
+      → whole (record { kind = k; start = at + 4; len = l; next = at + 4 + l }) ≡ read_at s at
   unfolding read_at next_at
   is_whole k l ek el h g b = rw (ek, el) (simp (whole-yes s at (omega arith) (let b' : le16 s at ≤ length s - (at + 4) = rw el at b in omega arith)))
 
 -- what the record read at an index is
-pub record Found (s : List ℕ) (at : ℕ) (x : Read) : Type 0 where
+pub record Found (s : List ℕ) (at : ℕ) (x : Whole) : Type 0 where
   pub is : whole_at s at ≡ true
   pub that : record_at s at ≡ record_of x.kind x.start x.len
   pub behind : next_at s at ≡ x.next
@@ -38,10 +39,10 @@ pub record Found (s : List ℕ) (at : ℕ) (x : Read) : Type 0 where
   pub body : x.start + x.len ≡ x.next
 
 module _ (s : List ℕ) (at : ℕ) where
-  abbrev there : Bool → Option Read
-  there t = pick t (Some (record { kind = le16 s (at + 2); start = at + 4; len = le16 s at; next = next_at s at })) None
+  abbrev there : Bool → Read
+  there t = pick t (whole (record { kind = le16 s (at + 2); start = at + 4; len = le16 s at; next = next_at s at })) Cut
 
-  by_whole : (t : Bool) → whole_at s at ≡ t → (x : Read) → Some x ≡ there t → Found s at x
+  by_whole : (t : Bool) → whole_at s at ≡ t → (x : Whole) → whole x ≡ there t → Found s at x
   unfolding record_at next_at
   by_whole true e x q =
       let w = within s at e in
@@ -52,34 +53,34 @@ module _ (s : List ℕ) (at : ℕ) where
       record { is = e; that = cc; behind = sym e4; on = omega arith; inside = omega arith; body = omega arith }
   by_whole false e x q = absurd (cc)
 
-  pub found : (x : Read) → Some x ≡ read_at s at → Found s at x
+  pub found : (x : Whole) → whole x ≡ read_at s at → Found s at x
   unfolding read_at
   found x q = by_whole (whole_at s at) refl x q
 
-  not-whole : (t : Bool) → whole_at s at ≡ t → None ≡ there t → whole_at s at ≡ false
+  not-whole : (t : Bool) → whole_at s at ≡ t → Cut ≡ there t → whole_at s at ≡ false
   not-whole false e q = e
   not-whole true e q = absurd (cc)
 
-  pub cut-there : None ≡ read_at s at → whole_at s at ≡ false
+  pub cut-there : Cut ≡ read_at s at → whole_at s at ≡ false
   unfolding read_at
   cut-there q = not-whole (whole_at s at) refl q
 
 -- ---- the records from an index on, by what was read there
 
 module _ (s : List ℕ) (at : ℕ) where
-  pub read_more : (x : Read) → Some x ≡ read_at s at → records_at s at ≡ record_of x.kind x.start x.len ∷ records_at s x.next
+  pub read_more : (x : Whole) → whole x ≡ read_at s at → records_at s at ≡ record_of x.kind x.start x.len ∷ records_at s x.next
   read_more x e =
       let f = found s at x e in
       records-more s at f.is ∙ ap (λ (y : Record). y ∷ records_at s (next_at s at)) f.that ∙ ap (λ (m : ℕ). record_of x.kind x.start x.len ∷ records_at s m) f.behind
 
-  pub read-cut : None ≡ read_at s at → records_at s at ≡ []
+  pub read-cut : Cut ≡ read_at s at → records_at s at ≡ []
   read-cut e = records-none s at (cut-there s at e)
 
   -- the bytes left fall
-  pub fewer : (x : Read) → at < length s → Some x ≡ read_at s at → length s - x.next < length s - at
+  pub fewer : (x : Whole) → at < length s → whole x ≡ read_at s at → length s - x.next < length s - at
   fewer x h e = let f = found s at x e in omega arith
 
-  pub body-inside : (x : Read) → Some x ≡ read_at s at → x.start + x.len ≤ length s
+  pub body-inside : (x : Whole) → whole x ≡ read_at s at → x.start + x.len ≤ length s
   body-inside x e = let f = found s at x e in omega arith
 
 -- ---- answer 1: the index is one that the walk over the records comes to
@@ -91,12 +92,12 @@ pub record Along (s : List ℕ) (at : ℕ) : Type 0 where
 pub along_none : (s : List ℕ) → Along s 0
 along_none s = record { upto = omega arith; same = refl }
 
-pub along_more : (s : List ℕ) (at : ℕ) (x : Read) → Along s at → Some x ≡ read_at s at → Along s x.next
+pub along_more : (s : List ℕ) (at : ℕ) (x : Whole) → Along s at → whole x ≡ read_at s at → Along s x.next
 along_more s at x h e =
     let f = found s at x e in
     record { upto = f.inside; same = ap (behind_at s) (sym f.behind) ∙ sym (behind_more s at f.is) ∙ h.same }
 
-pub along_cut : (s : List ℕ) (at : ℕ) → Along s at → at < length s → None ≡ read_at s at → cut s ≡ true
+pub along_cut : (s : List ℕ) (at : ℕ) → Along s at → at < length s → Cut ≡ read_at s at → cut s ≡ true
 along_cut s at h l e = sym (cut-is s at h.same (cut-there s at e)) ∙ lt-ltb _ _ l
 
 pub along_all : (s : List ℕ) (at : ℕ) → Along s at → length s ≤ at → cut s ≡ false

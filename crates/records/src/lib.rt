@@ -1,4 +1,4 @@
-// A query's bytes as records: the record that stands at an index, or none where it is cut.
+// A query's bytes as records: each record read answers an enum, Record or Cut.
 // The promise is an equation with document 01's definition, at every index inside the query.
 #![tactic(auto)]
 
@@ -50,6 +50,14 @@ pub struct Record {
     pub next: usize,
 }
 
+// What stands at an index of the query. An enum of these two names, and no Option, is the form that
+// document 01 gives it ("What shape each place takes").
+#[derive(Clone, Copy)]
+pub enum Read {
+    Record(Record),
+    Cut,
+}
+
 // The byte at an index of the query.
 pub fn byte(s: &[u8], at: usize) -> usize
     requires { at < length s.now }
@@ -58,20 +66,20 @@ pub fn byte(s: &[u8], at: usize) -> usize
     usize::from(s[at])
 }
 
-// The record at an index below the query's end; none where it is cut.
-pub fn record_at(s: &[u8], at: usize) -> Option<Record>
+// The record at an index below the query's end.
+pub fn record_at(s: &[u8], at: usize) -> Read
     requires { at < length s.now }
     ensures { result ≡ read_at s.now at }
 {
     if s.len() - at < 4 {
-        return None;
+        return Read::Cut;
     }
     let len = le16_at(s, at);
     let start = at + 4;
     if s.len() - start < len {
-        return None;
+        return Read::Cut;
     }
-    Some(Record {
+    Read::Record(Record {
         kind: le16_at(s, at + 2),
         start,
         len,

@@ -10,13 +10,13 @@ pub unreachable-requires : goal.unreachable-requires
 unreachable-requires c = first-whole _ c.requires c.in_default.ensures
 
 pub record_at-requires-2 : goal.record_at-requires-2
-record_at-requires-2 c = second-inside _ c.requires _ c.in-Some.ensures
+record_at-requires-2 c = second-inside _ c.requires _ c.in-Record.ensures
 
 pub unreachable-requires-in_default-record_at : goal.unreachable-requires-in_default-record_at
-unreachable-requires-in_default-record_at c = second-whole _ c.requires _ c.in-Some.ensures c.in_default-record_at.ensures
+unreachable-requires-in_default-record_at c = second-whole _ c.requires _ c.in-Record.ensures c.in_default-record_at.ensures
 
 pub byte-requires : goal.byte-requires
-byte-requires c = shape_inside _ c.requires _ c.in-Some.ensures
+byte-requires c = shape_inside _ c.requires _ c.in-Record.ensures
 
 pub returns : goal.returns
-returns c = head_is _ c.requires _ c.in-Some.ensures _ c.in-Some-record_at.ensures _ c.byte.ensures.0
+returns c = head_is _ c.requires _ c.in-Record.ensures _ c.in-Record-record_at.ensures _ c.byte.ensures.0

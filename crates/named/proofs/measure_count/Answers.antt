@@ -11,13 +11,13 @@ pub loop-at-smaller-then-is_measure : goal.loop-at-smaller-then-is_measure
 loop-at-smaller-then-is_measure c = search (rules, fewer)
 
 pub loop-at-preserved-then-is_measure : goal.loop-at-preserved-then-is_measure
-loop-at-preserved-then-is_measure c = counting_more _ _ _ c.loop-at.invariant _ c.in-Some.ensures (sym c.if-is_measure.ensures)
+loop-at-preserved-then-is_measure c = counting_more _ _ _ c.loop-at.invariant _ c.in-Record.ensures (sym c.if-is_measure.ensures)
 
 pub loop-at-smaller : goal.loop-at-smaller
 loop-at-smaller c = search (rules, fewer)
 
 pub loop-at-preserved : goal.loop-at-preserved
-loop-at-preserved c = counting_other _ _ _ c.loop-at.invariant _ c.in-Some.ensures (sym c.if-is_measure.ensures)
+loop-at-preserved c = counting_other _ _ _ c.loop-at.invariant _ c.in-Record.ensures (sym c.if-is_measure.ensures)
 
 pub returns-after-loop-at : goal.returns-after-loop-at
 returns-after-loop-at c = counting_all _ _ _ c.loop-at.invariant (search rules)

@@ -22,9 +22,9 @@ loop-at-smaller c = search (rules, fewer)
 
 pub loop-at-preserved : goal.loop-at-preserved
 loop-at-preserved c =
-    let fit : c.if-fit.fit ≡ (c.loop-at.fit && record_fits c.args.s.now c.columns_by-columns.result (record_of c.in-Some.record.kind c.in-Some.record.start c.in-Some.record.len)) =
+    let fit : c.if-fit.fit ≡ (c.loop-at.fit && record_fits c.args.s.now c.columns_by-columns.result (record_of c.in-Record.record.kind c.in-Record.record.start c.in-Record.record.len)) =
     elim c.if-fit.branch [ then-fit w ↦ search rules | else-fit w ↦ search rules ] in
-    judged_more _ _ _ _ _ c.loop-at.invariant _ c.in-Some.ensures _ _ _ c.columns_by-columns.ensures fit c.after-stage.ensures
+    judged_more _ _ _ _ _ c.loop-at.invariant _ c.in-Record.ensures _ _ _ c.columns_by-columns.ensures fit c.after-stage.ensures
 
 pub returns-in-Measures : goal.returns-in-Measures
 returns-in-Measures c = judged_0 _ _ _ _ _ c.loop-at.invariant (search rules) (ap place c.in-Measures.is) c.if-fit-2.true
