@@ -3,12 +3,14 @@
 use mathlib.Core.Path.{◌≡◌, refl, sym, ap, ◌∙◌}
 use mathlib.Core.Bool.{Bool, true, false, not, ◌||◌}
 use mathlib.Core.List.{List, []}
-use mathlib.Core.Option.{some}
 use Prim.Native.Nat.{ℕ, ◌+◌, ◌*◌, ◌≤◌, ◌<◌}
 use native.Mathlib.Omega.{arith}
 use lib.Dec.{ltb, eqb}
 use lib.ListN.{length, get_or}
-use borrow.Author.Tests.{ltb-true, ltb-false, eqb-true, ne_eqb}
+use borrow.Author.Tests.{ltb-true, eqb-true, ne_eqb}
+use Rattle.std.specs.Bool.{MatchBool}
+use Rattle.std.specs.List.{HoldsAt, AllWithin, range_with_len}
+use Rattle.std.proofs.lemmas.List.FromFn.{get_or-range_with_len, length-range_with_len}
 use Rattle.rules.specs.Basics.{every}
 use Rattle.rules.specs.Query.{parts, text_of}
 use Rattle.rules.specs.Language.{letters, has_dollar}
@@ -130,24 +132,26 @@ module _ (s T : List ℕ) (p : Prepared) (a : Ready s T p) where
       let c : Passes settled (get_or (places (unroll a.tree)) q (p_fork [])) = places-pass settled a.tree (not-false (every settled (letters a.tree)) o.1) o.0 q in
       absurd (place-fails q h e (rw (place_is q h) (thin-passes settled (get_or (places (unroll a.tree)) q (p_fork [])) c)))
 
--- ---- the loop
-
--- the first q places do not look ahead
-pub record Clear (T : List ℕ) (columns q : ℕ) : Type 0 where
-  pub none : (j : ℕ) → j < q → place_ahead T columns j ≡ false
+-- ---- one of the places
 
 module _ (T : List ℕ) (p : Prepared) where
-  pub clear_none : Clear T p.columns 0
-  clear_none = record { none = λ j h. absurd (omega arith) }
+  abbrev pub IsAhead : ℕ → Type 0
+  IsAhead q = place_ahead T p.columns q ≡ true
 
-  pub clear_more : (q : ℕ) → Clear T p.columns q → (t : Bool) → t ≡ place_ahead T p.columns q → t ≡ false → Clear T p.columns (q + 1)
-  clear_more q h t is-t e = record { none = λ j l. decided (ltb j q) (λ b. h.none j (ltb-true j q b)) (λ b. let g = ltb-false j q b in let z : j ≡ q = omega arith in rw z (sym is-t ∙ e)) }
+  abbrev pub NotAhead : ℕ → Type 0
+  NotAhead q = place_ahead T p.columns q ≡ false
 
-  pub clear_all : (q : ℕ) → Clear T p.columns q → p.places ≤ q → (s : List ℕ) → Ready s T p → false ≡ looks_ahead s
-  clear_all q h l s a = none-looks s T p a (λ j i. h.none j (omega arith))
+  at-q : (q : ℕ) → q < p.places → get_or (range_with_len 0 p.places) q 0 ≡ q
+  at-q q l = get_or-range_with_len 0 p.places q 0 l ∙ omega arith
 
-  pub clear_found : (q : ℕ) → q < p.places → (t : Bool) → t ≡ place_ahead T p.columns q → t ≡ true → (s : List ℕ) → Ready s T p → true ≡ looks_ahead s
-  clear_found q h t is-t e s a = one-looks s T p a q h (sym is-t ∙ e)
+  pub any_looks : (t : Bool) → MatchBool t ((q : ℕ) × (q < length (range_with_len 0 p.places)) × HoldsAt IsAhead (range_with_len 0 p.places) q)
+      (AllWithin NotAhead (range_with_len 0 p.places) 0 (length (range_with_len 0 p.places))) → (s : List ℕ) → Ready s T p → t ≡ looks_ahead s
+  any_looks true m s a =
+      let l : m.0 < p.places = rw length-range_with_len at m.1 in
+      let e = at-q m.0 l in
+      one-looks s T p a m.0 l (rw e at (m.2 0))
+  any_looks false m s a =
+      none-looks s T p a (λ q l. let e = at-q q l in let f : q < length (range_with_len 0 p.places) = rw length-range_with_len l in rw e at (m q 0 (omega arith) f))
 
   -- what a place asks
   module _ (w : StandsFor T p) (q : ℕ) (h : q < p.places) where

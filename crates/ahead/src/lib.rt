@@ -17,14 +17,6 @@ pub fn looks_ahead(table: &[u16], p: Prepared) -> bool
     requires { StandsFor table.now p }
     ensures { (q : List ℕ) → Ready q table.now p → result ≡ looks_ahead q }
 {
-    let places = p.places;
     let columns = p.columns;
-    let mut q = 0;
-    while q < places {
-        if place_ahead(table, q, columns) {
-            return true;
-        }
-        q += 1;
-    }
-    false
+    (0..p.places).any(|q| place_ahead(table, q, columns))
 }

@@ -9,10 +9,11 @@ use lib.IntN.{ℤ}
 use lib.ListN.{length, get_or}
 use borrow.Author.Tests.{eq-eqb, ne_eqb, not-true, not-false}
 use Rattle.rules.specs.Basics.{pick}
-use Rattle.rules.specs.Rows.{is_yes, latest}
+use Rattle.rules.specs.Rows.{latest}
 use Rattle.table.specs.Tests.{Entries}
 use Rattle.comparisons.specs.Spots.{read_met, first_unmet}
-use Rattle.conditions.specs.Results.{read_results}
+use Rattle.conditions.specs.Results.{truth_number, read_results}
+use Rattle.conditions.proofs.Numbers.{yes_number}
 use Rattle.judging.specs.Judging.{judged_of, holds_from, judged_from, Judgeable, JudgedAs}
 
 -- the first that is not met is no further than the last
@@ -33,9 +34,11 @@ module _ (T : List ℕ) (rows : List ℤ) (from at : ℕ) (kind : ℕ) (is-kind 
   abbrev Says : Bool → ℕ → Type 0
   Says h k = JudgedAs T rows from at (record { holds = h; count = k })
 
-  pub by_entries : kind ≡ 3 → (h : Bool) → h ≡ is_yes (latest (read_results T rows from (get_or T (at + 2) 0) (get_or T (at + 1) 0) [])) → Says h 0
+  pub by_entries : kind ≡ 3 → (x : ℕ) → x ≡ truth_number (latest (read_results T rows from (get_or T (at + 2) 0) (get_or T (at + 1) 0) [])) → Says (eqb x 2) 0
   unfolding holds_from judged_from
-  by_entries k h e = let z : eqb (get_or T (at + 7) 0) 3 ≡ true = eq-eqb (get_or T (at + 7) 0) 3 (sym is-kind ∙ k) in record { holds = rw z e; count = rw z refl }
+  by_entries k x e =
+      let z : eqb (get_or T (at + 7) 0) 3 ≡ true = eq-eqb (get_or T (at + 7) 0) 3 (sym is-kind ∙ k) in
+      record { holds = rw z (ap (λ (i : ℕ). eqb i 2) e ∙ yes_number _); count = rw z refl }
 
   module _ (n : kind ≡ 3 → ⊥) (all : ℕ) (is_all : all ≡ get_or T at 0) where
     not-3 : eqb (get_or T (at + 7) 0) 3 ≡ false

@@ -8,6 +8,9 @@ use native.Mathlib.Omega.{arith}
 use lib.Dec.{ltb, eqb}
 use lib.ListN.{length, get_or}
 use borrow.Author.Tests.{lt-ltb, le-ltb, eq-eqb, ne_eqb}
+use Rattle.std.specs.Bool.{MatchBool}
+use Rattle.std.specs.List.{HoldsAt, AllWithin, range_with_len}
+use Rattle.std.proofs.lemmas.List.FromFn.{get_or-range_with_len, length-range_with_len}
 use Rattle.rules.specs.Basics.{pick, every, tabulate}
 use Rattle.rules.specs.Rows as R
 use Rattle.rules.specs.Rows.{Comparison, compared_in}
@@ -47,14 +50,9 @@ some-last (c ∷ cs) x = by (ahead c) (some-last cs x)
 -- ---- comparisons one behind the other
 
 module _ (T : List ℕ) (columns at : ℕ) where
-  -- the first k do not look ahead
-  pub record Passed (count k : ℕ) : Type 0 where
-    pub none : some_ahead (comparisons_in T columns at k) ≡ false
-    pub few : k ≤ count
-
-  pub passed_none : (count : ℕ) → Passed count 0
+  none-ahead : some_ahead (comparisons_in T columns at 0) ≡ false
   unfolding comparisons_in tabulate some_ahead every
-  passed_none count = record { none = refl; few = omega arith }
+  none-ahead = refl
 
   one_more : (k : ℕ) → some_ahead (comparisons_in T columns at (k + 1)) ≡ pick (some_ahead (comparisons_in T columns at k)) true (ahead (comparison_in T columns (at + k * 5)))
   unfolding comparisons_in tabulate
@@ -67,19 +65,41 @@ module _ (T : List ℕ) (columns at : ℕ) where
   stays-ahead zero k e = let z : k + 0 ≡ k = omega arith in rw z e
   stays-ahead (suc d) k e = let z : k + suc d ≡ k + d + 1 = omega arith in rw (z, one_more (k + d), stays-ahead d k e) refl
 
-  module _ (count k : ℕ) (h : Passed count k) (t : Bool) (is-t : t ≡ ahead (comparison_in T columns (at + k * 5))) where
-    pub passed-more : k < count → t ≡ false → Passed count (k + 1)
-    passed-more l e = record { none = rw (one_more k, h.none, ← is-t) e; few = omega arith }
+  -- as a test of each says
+  all-clear : (count : ℕ) → ((k : ℕ) → k < count → ahead (comparison_in T columns (at + k * 5)) ≡ false) → some_ahead (comparisons_in T columns at count) ≡ false
+  all-clear zero h = none-ahead
+  all-clear (suc c) h =
+      let e : c + 1 ≡ suc c = omega arith in
+      rw (← e, one_more c, all-clear c (λ k l. h k (omega arith)), h c (omega arith)) refl
 
-    pub passed-found : k < count → t ≡ true → true ≡ some_ahead (comparisons_in T columns at count)
-    passed-found l e =
-        let a : some_ahead (comparisons_in T columns at (k + 1)) ≡ true = rw (one_more k, h.none, ← is-t) e in
-        let z : k + 1 + (count - (k + 1)) ≡ count = omega arith in
-        let b = stays-ahead (count - (k + 1)) (k + 1) a in
-        sym (rw z at b)
+  one-found : (count k : ℕ) → k < count → ahead (comparison_in T columns (at + k * 5)) ≡ true → some_ahead (comparisons_in T columns at count) ≡ true
+  one-found count k l e =
+      let a : some_ahead (comparisons_in T columns at (k + 1)) ≡ true = rw (one_more k, e) (by (some_ahead (comparisons_in T columns at k))) in
+      let z : k + 1 + (count - (k + 1)) ≡ count = omega arith in
+      let b = stays-ahead (count - (k + 1)) (k + 1) a in
+      rw z at b
+    where
+      by : (t : Bool) → pick t true true ≡ true
+      by true = refl
+      by false = refl
 
-  pub passed-all : (count k : ℕ) → Passed count k → count ≤ k → false ≡ some_ahead (comparisons_in T columns at count)
-  passed-all count k h l = let f = h.few in let z : k ≡ count = omega arith in let e = h.none in sym (rw z at e)
+  abbrev pub IsAhead : ℕ → Type 0
+  IsAhead k = ahead (comparison_in T columns (at + k * 5)) ≡ true
+
+  abbrev pub NotAhead : ℕ → Type 0
+  NotAhead k = ahead (comparison_in T columns (at + k * 5)) ≡ false
+
+  at-k : (count k : ℕ) → k < count → get_or (range_with_len 0 count) k 0 ≡ k
+  at-k count k l = get_or-range_with_len 0 count k 0 l ∙ omega arith
+
+  pub any_ahead : (count : ℕ) (t : Bool) → MatchBool t ((k : ℕ) × (k < length (range_with_len 0 count)) × HoldsAt IsAhead (range_with_len 0 count) k)
+      (AllWithin NotAhead (range_with_len 0 count) 0 (length (range_with_len 0 count))) → t ≡ some_ahead (comparisons_in T columns at count)
+  any_ahead count true m =
+      let l : m.0 < count = rw length-range_with_len at m.1 in
+      let e = at-k count m.0 l in
+      sym (one-found count m.0 l (rw e at (m.2 0)))
+  any_ahead count false m =
+      sym (all-clear count (λ k l. let e = at-k count k l in let f : k < length (range_with_len 0 count) = rw length-range_with_len l in rw e at (m k 0 (omega arith) f)))
 
 -- ---- entries one behind the other
 

@@ -63,9 +63,3 @@ module _ (T : List ℕ) (at word columns : ℕ) (is_IsWord : word ≡ get_or T a
   pub entry-operator : 16 ≤ word → false ≡ entry_ahead T columns at
   unfolding entry_ahead
   entry-operator h = rw (← is_IsWord, le-ltb word 16 h) refl
-
-pub words_comparison : (word : ℕ) → word < 16 → (◌≡◌ {A = ℕ} 5 (pick (ltb word 16) 5 1)) × (5 ≤ 5)
-words_comparison word h = (simp (lt-ltb word 16 h), omega arith)
-
-pub words_operator : (word : ℕ) → 16 ≤ word → (◌≡◌ {A = ℕ} 1 (pick (ltb word 16) 5 1)) × (1 ≤ 5)
-words_operator word h = (simp (le-ltb word 16 h), omega arith)

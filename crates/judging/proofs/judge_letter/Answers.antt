@@ -6,8 +6,8 @@ use native.Mathlib.Omega.{arith}
 use borrow.Author.Rules.{rules}
 use Rattle.judging.proofs.judge_letter.Goals as goal
 
-pub condition_truth-requires : goal.condition_truth-requires
-condition_truth-requires c = entries-stand _ _ c.requires _ c.word_at.ensures.0 c.if-word_at-eq-BY_ENTRIES.true
+pub condition_truth-holds-requires : goal.condition_truth-holds-requires
+condition_truth-holds-requires c = entries-stand _ _ c.requires _ c.word_at.ensures.0 c.if-word_at-eq-BY_ENTRIES.true
 
 pub returns-then-word_at-eq-BY_ENTRIES : goal.returns-then-word_at-eq-BY_ENTRIES
 returns-then-word_at-eq-BY_ENTRIES c = search (rules, by_entries)

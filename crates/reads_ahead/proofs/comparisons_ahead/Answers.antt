@@ -1,21 +1,12 @@
--- `reads_ahead::comparisons_ahead` meets its contract. The invariant is `Passed`.
-use Rattle.reads_ahead.proofs.Letters.{Passed, passed_none, passed-more, passed-found, passed-all}
-use Prim.Native.Nat.{◌-◌}
-use borrow.Author.Rules.{rules}
-use native.Mathlib.Omega.{arith}
+-- `reads_ahead::comparisons_ahead` meets its contract.
+use Rattle.std.proofs.Common.{refl, arith, rules}
+use Rattle.std.proofs.lemmas.Iterator.{cases_from_any, YieldsList-from_range}
+use Rattle.reads_ahead.proofs.Letters.{IsAhead, NotAhead, any_ahead}
 use Rattle.reads_ahead.proofs.comparisons_ahead.Goals as goal
 
-pub loop-k-init : goal.loop-k-init
-loop-k-init c = search (rules, passed_none)
-
-pub returns-then-comparison_ahead : goal.returns-then-comparison_ahead
-returns-then-comparison_ahead c = search (rules, passed-found)
-
-pub loop-k-smaller : goal.loop-k-smaller
-loop-k-smaller c = omega arith
-
-pub loop-k-preserved : goal.loop-k-preserved
-loop-k-preserved c = search (rules, passed-more)
-
 pub returns : goal.returns
-returns c = search (rules, passed-all)
+returns c =
+    let a = c.args in
+    any_ahead _ _ _ _ _
+    (cases_from_any _ _ _ (IsAhead a.table.now a.columns a.at) (NotAhead a.table.now a.columns a.at) c.any.ensures.ran
+    (YieldsList-from_range 0 a.count a.count refl (omega arith)) (λ x q k. search rules) (λ x q k. search rules))
