@@ -21,7 +21,6 @@ use Rattle.trees.specs.Held.{body, At}
 use Rattle.trees.proofs.ByNode.{Bounded, IsAnchor, FactorAt, as_any, as_seq, as_alt, as_letter, as_anchor, as_empty, as_group, at_in, group-left, top_places}
 use Rattle.laws.proofs.Counting.{unrolled-skips}
 use Rattle.loops.specs.Loops.{Nullable}
-use Rattle.place_codes.specs.declared.Plane.{Plane}
 use Rattle.forks.specs.PlaneCode.{flags_copy}
 use Rattle.forks.specs.Emitting.{WholeSize, BodySize, BodyEmpty, BodyFlag}
 
@@ -156,11 +155,11 @@ module _ (s : List ℕ) (i : ℕ) (n : Node) (en : n ≡ node_at s i) where
 
 -- ---- the flag of a copy
 
-module _ (o : Plane) (s : List ℕ) (i : ℕ) where
-  pub flag_never : o.factor ≤ 1 → BodyFlag o s i false
+module _ (f : ℕ) (s : List ℕ) (i : ℕ) where
+  pub flag_never : f ≤ 1 → BodyFlag f s i false
   unfolding flags_copy
-  flag_never h F t = rw (le-ltb 1 o.factor h)
+  flag_never h F t = rw (le-ltb 1 f h)
 
-  pub flag_if : (r : Bool) → 1 < o.factor → BodyEmpty s i r → BodyFlag o s i r
+  pub flag_if : (r : Bool) → 1 < f → BodyEmpty s i r → BodyFlag f s i r
   unfolding flags_copy
-  flag_if r h f F t = f F t ∙ sym (rw (lt-ltb 1 o.factor h) (unrolled-skips (body F)))
+  flag_if r h e F t = e F t ∙ sym (rw (lt-ltb 1 f h) (unrolled-skips (body F)))

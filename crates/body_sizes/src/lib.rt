@@ -7,7 +7,6 @@ ghost use Rattle.forks.specs.Emitting.{WholeSize, BodySize, BodyEmpty, BodyFlag}
 
 use loops::can_be_empty;
 use nodes::{Sort, node_at, places_at, sort_at};
-use place_codes::Plane;
 
 // The places of the pattern at i, its fork included.
 fn whole_size(room: &[u16], i: usize) -> usize
@@ -51,9 +50,9 @@ fn body_is_empty(room: &[u16], i: usize) -> bool
 
 // Whether a copy of the body of the factor at i that leads back to its fork has a flag. Where the
 // flags have one value only, no copy has one.
-pub fn copy_has_flag(room: &[u16], i: usize, o: Plane) -> bool
+pub fn copy_has_flag(room: &[u16], i: usize, factor: usize) -> bool
     requires { At room.now i }
-    ensures { BodyFlag o room.now i result }
+    ensures { BodyFlag factor room.now i result }
 {
-    o.factor > 1 && body_is_empty(room, i)
+    factor > 1 && body_is_empty(room, i)
 }

@@ -26,7 +26,7 @@ use Rattle.trees.proofs.ByNode.{as_any, as_alt, at_in, alt_left, alt_right, top_
 use Rattle.table.specs.Table.{span}
 use Rattle.place_words.specs.Words.{put_ways, put_words, put_place, put_fork, ForkNeeds, way_count, FitsOne, PutOne, Fitting, Emitted, Wording, WayPut, WayNeeds, place_words}
 use Rattle.place_codes.specs.Codes.{later_word}
-use Rattle.place_codes.specs.Planes.{Planed, slot, start_no}
+use Rattle.place_codes.specs.Planes.{slot, start_no}
 use Rattle.place_codes.specs.declared.Plane.{Plane}
 use Rattle.place_codes.specs.declared.Behind.{Behind}
 use Rattle.forks.specs.PlaneCode.{used, starts_in}
@@ -197,8 +197,8 @@ put_length T T2 q w r p d = ap length d.is ∙ place-length T q w p
 -- ---- a place in a plane, or END where it does not have the plane's flags
 
 module _ (o : Plane) (T : List ℕ) (b w : ℕ) (k : Behind) (p : Place) (f : Fitting o T b w k (used o k p ∷ [])) where
-  pub plane-slot : Planed o × (b ≤ 256)
-  plane-slot = (f.planed, omega (arith, f.place))
+  pub plane-slot : b ≤ 256
+  plane-slot = omega (arith, f.place)
 
   module _ (q : ℕ) (eq : q ≡ slot o b) where
     used-here : o.flags < k.values → FitsOne T q w p
@@ -224,7 +224,7 @@ module _ (o : Plane) (T : List ℕ) (b w : ℕ) (k : Behind) (p : Place) (f : Fi
 -- ---- the fork between a copy and leaving, in a plane
 
 module _ (o : Plane) (T : List ℕ) (b w : ℕ) (lazy : Bool) (copy : ℕ) (k : Behind) (h : Parting o T b w lazy copy k) where
-  pub part-slot : Planed o × (b ≤ 256)
+  pub part-slot : b ≤ 256
   part-slot = plane-slot o T b w k (choice lazy copy k.here) h.fits
 
   module _ (q : ℕ) (eq : (q ≡ slot o b) × (q < 4096)) where
@@ -308,7 +308,6 @@ module _ (o : Plane) (s : List ℕ) (i : ℕ) (n : Node) (en : n ≡ node_at s i
         next_start =
             let z = alt.size_is in let l = after2.len in let q = rest-list in
             record {
-              planed = h.planed;
               tree = alt.rest;
               top = alt.rest_top;
               order = after2.order;
@@ -451,8 +450,8 @@ pub ways-start : (o : Plane) (s : List ℕ) (i : ℕ) (T : List ℕ) (from to b 
 ways-start o s i T from to b k h = record { now = h; so = λ h T2 r f. f h }
 
 module _ (o : Plane) (s : List ℕ) (i : ℕ) (T0 : List ℕ) (from to0 b0 k j : ℕ) (T : List ℕ) (to b : ℕ) (L : WaysLeft o s i T0 from to0 b0 k j T to b) where
-  pub ways-entry : Planed o × (b ≤ 256) × (k < 4096)
-  ways-entry = (L.now.planed, omega (arith, L.now.place), L.now.behind)
+  pub ways-entry : (b ≤ 256) × (k < 4096)
+  ways-entry = (omega (arith, L.now.place), L.now.behind)
 
   pub ways-in : 8 * j + 8 ≤ length s
   ways-in = start-node o s j T from to b k L.now
@@ -511,8 +510,8 @@ module _ (o : Plane) (s : List ℕ) (i : ℕ) (T : List ℕ) (b w : ℕ) (k : Be
   unfolding ways
   starts_all = ap (λ (v : List ℕ). fresh v (starts_in o (unrolled h.tree) (b + 1) k.here)) (span_none T w)
 
-  pub forking_slot : Planed o × (b ≤ 256)
-  forking_slot = (h.fits.planed, omega (arith, h.room))
+  pub forking_slot : b ≤ 256
+  forking_slot = omega (arith, h.room)
 
   pub forking_next : Fits-in w64 (b + 1)
   forking_next = record { fits = omega (arith, h.room) }
@@ -523,7 +522,6 @@ module _ (o : Plane) (s : List ℕ) (i : ℕ) (T : List ℕ) (b w : ℕ) (k : Be
       let f : FitsOne T (slot o b) w (p_fork ways) = used-here o T b w k (p_fork ways) h.fits (slot o b) refl l in
       let a = f.way in
       record {
-        planed = h.fits.planed;
         tree = h.tree;
         top = h.top;
         order = omega arith;

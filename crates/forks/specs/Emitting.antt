@@ -9,7 +9,6 @@ use Rattle.trees.specs.Held.{body, lazy_of, Top}
 use Rattle.table.specs.Table.{later_at, count_at, span, places_in}
 use Rattle.table.specs.Sized.{Sized}
 use Rattle.place_words.specs.Words.{put_ways, FitsOne, Fitting}
-use Rattle.place_codes.specs.Planes.{Planed}
 use Rattle.place_codes.specs.declared.Plane.{Plane}
 use Rattle.place_codes.specs.declared.Behind.{Behind}
 use Rattle.forks.specs.PlaneCode.{used, flags_copy, starts_in, plane_of, planes_of}
@@ -19,7 +18,6 @@ abbrev pub new_starts : Plane → List ℕ → Tree pattern → ℕ → ℕ → 
 new_starts o seen p b k = fresh seen (starts_in o (unrolled p) b k)
 
 pub record Starting (o : Plane) (s : List ℕ) (i : ℕ) (T : List ℕ) (from to b k : ℕ) : Type 0 where
-  pub planed : Planed o
   pub tree : Tree pattern
   pub top : Top tree i s
   pub order : from ≤ to
@@ -119,7 +117,7 @@ pub record Turning (o : Plane) (s : List ℕ) (i c : ℕ) (lazy empty : Bool) (n
   pub top : Top (one (last of)) i s
   pub each : c ≡ size (unrolled (body of))
   pub reluctant : lazy ≡ lazy_of of
-  pub flags : empty ≡ flags_copy o (unrolled (body of))
+  pub flags : empty ≡ flags_copy o.factor (unrolled (body of))
   pub ends : end ≡ b + size (turns n m (lazy_of of) (unrolled (body of)))
   pub fits : Fitting o T b w k (turn_places o n m of b k)
 
@@ -135,8 +133,8 @@ abbrev pub BodyEmpty : List ℕ → ℕ → Bool → Type 0
 BodyEmpty s i r = (F : Tree factor) → Top (one (last F)) i s → r ≡ nullable (body F)
 
 -- r says whether the copy of the body of whatever factor has its top at i has a flag
-abbrev pub BodyFlag : Plane → List ℕ → ℕ → Bool → Type 0
-BodyFlag o s i r = (F : Tree factor) → Top (one (last F)) i s → r ≡ flags_copy o (unrolled (body F))
+abbrev pub BodyFlag : ℕ → List ℕ → ℕ → Bool → Type 0
+BodyFlag f s i r = (F : Tree factor) → Top (one (last F)) i s → r ≡ flags_copy f (unrolled (body F))
 
 -- ---- the whole
 

@@ -13,9 +13,9 @@ unfoldable pub used : Plane → Behind → Place → Place
 used o k p = pick (ltb o.flags k.values) p p_end
 
 -- whether a copy that leads back to its fork has a flag: where there is one value only, none has
-unfoldable pub flags_copy : Plane → Unrolled → Bool
+unfoldable pub flags_copy : ℕ → Unrolled → Bool
 unfolding skips
-flags_copy o t = ltb 1 o.factor && skips t
+flags_copy f t = ltb 1 f && skips t
 
 -- where branches begin, if entry k is behind them
 unfoldable pub starts_in : Plane → Branches → ℕ → ℕ → List ℕ
@@ -35,8 +35,8 @@ unfoldable mutual
   plane_of o (u_alt ts) b k = used o k (p_fork (starts_in o ts (suc b) k.here)) ∷ planes_of o ts (suc b) k
   plane_of o (u_opt lazy t) b k = used o k (p_fork (ways_in_turn lazy (start_by o (suc b) (suc b + size t) k).here k.here)) ∷ plane_of o t (suc b) k
   plane_of o (u_star lazy t) b k =
-      used o k (p_fork (ways_in_turn lazy (start_by o (suc b) (suc b + size t) (round_by o (flags_copy o t) b k)).here k.here))
-      ∷ plane_of o t (suc b) (round_by o (flags_copy o t) b k)
+      used o k (p_fork (ways_in_turn lazy (start_by o (suc b) (suc b + size t) (round_by o (flags_copy o.factor t) b k)).here k.here))
+      ∷ plane_of o t (suc b) (round_by o (flags_copy o.factor t) b k)
 
   pub planes_of : Plane → Branches → ℕ → Behind → List Place
   planes_of o u_nil b k = []

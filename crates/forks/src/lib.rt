@@ -34,19 +34,16 @@ fn fork_ways(
     let mut word = to;
     loop {
         let n = node_at(room, node);
-        let sort = n.sort;
-        let left = n.left;
-        let right = n.right;
         if n.places == 0 {
             return put_way(table, from, word, k);
         }
-        let Sort::Alternation = sort else {
+        let Sort::Alternation = n.sort else {
             return put_way(table, from, word, o.start_entry(place, place + n.places, k));
         };
-        let end = place + places_at(room, left);
+        let end = place + places_at(room, n.left);
         word = put_way(table, from, word, o.start_entry(place, end, k));
         place = end;
-        node = right;
+        node = n.right;
     }
 }
 

@@ -20,10 +20,9 @@ fn point_one(table: &mut [u16], q: usize, tests: usize)
     ensures { PointedOne table.old table.new q tests }
 {
     let c = code_at(table, q);
-    if c >= LETTERS {
-        return;
+    if c < LETTERS {
+        table[WORDS * q + LATER] = (tests + c * TEST) as u16;
     }
-    table[WORDS * q + LATER] = (tests + c * TEST) as u16;
 }
 
 // Each letter's place among the first ones is told its test.

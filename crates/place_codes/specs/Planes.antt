@@ -7,11 +7,6 @@ use Rattle.rules.specs.Places.{state_at}
 use Rattle.place_codes.specs.declared.Plane.{Plane}
 use Rattle.place_codes.specs.declared.Behind.{Behind}
 
--- one of at most 8 values
-pub record Planed (o : Plane) : Type 0 where
-  pub few : o.factor ≤ 8
-  pub flag : o.flags < o.factor
-
 -- the entry of place b
 unfoldable pub slot : Plane → ℕ → ℕ
 slot o b = state_at o.factor b o.flags

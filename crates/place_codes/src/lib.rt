@@ -7,18 +7,19 @@
 ghost use Rattle.std.specs.Prelude.{◌≡◌, ◌+◌, ◌<◌, ◌-◌, ◌≤◌, length, get_or, eqb, leb};
 ghost use Rattle.rules.specs.Basics.{pick};
 ghost use Rattle.place_codes.specs.Codes.{fork_code, later_word, letter_code, anchor_code, turns_behind};
-ghost use Rattle.place_codes.specs.Planes.{Planed, Low, slot, state_by, start_by, round_by, start_no};
 
 use table::{CARET, DOLLAR, FORK, NEAR_FORK, TWO_WAYS, word_at};
 
 // The upper bound of an unbounded quantifier, as the nodes hold it: a word of the room is a number.
 const UNBOUNDED: usize = 100;
 
-// The flags have so many values, F, and this is one of them.
+// The flags have so many values, F, at most 8, and this is one of them.
 #[derive(Clone, Copy)]
 pub struct Plane {
     pub factor: usize,
     pub flags: usize,
+    pub ghost few: { factor ≤ 8 },
+    pub ghost flag: { flags < factor },
 }
 
 // What is behind a part: how many values the flags of its places have, and the entry at which
@@ -31,10 +32,12 @@ pub struct Behind {
 }
 
 impl Plane {
+    ghost use Rattle.place_codes.specs.Planes.{Low, slot, state_by, start_by, round_by, start_no};
+
     // The entry of place b.
     #[tactic(auto, unfolding(crate::specs::Planes::slot))]
     pub fn slot(self, b: usize) -> usize
-        requires { Planed self × (b ≤ 256) }
+        requires { b ≤ 256 }
         ensures { (result ≡ slot self b) × (result < 4096) }
     {
         b * self.factor + self.flags
@@ -42,8 +45,8 @@ impl Plane {
 
     // What is behind a part where place b is, and the flags have so many values there.
     #[tactic(auto, unfolding(crate::specs::Planes::state_by))]
-    fn state(self, values: usize, b: usize) -> Behind
-        requires { Planed self × (b ≤ 256) × (1 ≤ values) × (values ≤ 8) }
+    pub fn state(self, values: usize, b: usize) -> Behind
+        requires { (b ≤ 256) × (1 ≤ values) × (values ≤ 8) }
         ensures { result ≡ state_by self values b }
     {
         Behind {
@@ -56,7 +59,7 @@ impl Plane {
     // Where a part begins whose places are numbered from b up to end, if k is behind it.
     #[tactic(auto, unfolding(crate::specs::Planes::start_by))]
     pub fn start(self, b: usize, end: usize, k: Behind) -> Behind
-        requires { Planed self × (b ≤ 256) × Low k }
+        requires { (b ≤ 256) × Low k }
         ensures { result ≡ start_by self b end k }
     {
         if b == end {
@@ -68,7 +71,7 @@ impl Plane {
     // The same by the entry alone, if entry k is behind it.
     #[tactic(auto, unfolding(crate::specs::Planes::start_no))]
     pub fn start_entry(self, b: usize, end: usize, k: usize) -> usize
-        requires { Planed self × (b ≤ 256) × (k < 4096) }
+        requires { (b ≤ 256) × (k < 4096) }
         ensures { (result ≡ start_no self b end k) × (result < 4096) }
     {
         if b == end {
@@ -82,7 +85,7 @@ impl Plane {
     // it is not set ends the repetition.
     #[tactic(auto, unfolding(crate::specs::Planes::round_by))]
     pub fn round_end(self, b: usize, empty: bool, k: Behind) -> Behind
-        requires { Planed self × (b ≤ 256) × Low k }
+        requires { (b ≤ 256) × Low k }
         ensures { result ≡ round_by self empty b k }
     {
         if !empty {
@@ -111,7 +114,6 @@ fn doubled(values: usize) -> usize
 
 // The code of a fork by its first way, the place behind it and how many ways it has. A near fork
 // has a second way, so that the walk need not ask for it.
-#[tactic(auto, using(crate::proofs::CodeLaws::one_code, crate::proofs::CodeLaws::near_code, crate::proofs::CodeLaws::far_code))]
 pub fn fork_code(first: usize, behind: usize, count: usize) -> usize
     ensures { (result ≡ fork_code first behind count) × (result < 65536) }
 {

@@ -17,7 +17,7 @@ use Rattle.laws.proofs.ThinPlaces.{Spelt}
 use Rattle.table.specs.Table.{code_at, first_at, later_at, count_at, span, later_by, later_ways, ways_of, place_by, place_at, places_from}
 use Rattle.place_words.specs.Words.{put_ways, put_words, put_place, way_count, ways_in, put_places, FitsOne, PutOne, Fitting, Emitted, place_words}
 use Rattle.place_codes.specs.Codes.{letter_code, fork_code, later_word}
-use Rattle.place_codes.specs.Planes.{Planed, Low, slot}
+use Rattle.place_codes.specs.Planes.{Low, slot}
 use Rattle.place_codes.specs.declared.Plane.{Plane}
 use Rattle.place_codes.specs.declared.Behind.{Behind}
 use Rattle.place_codes.proofs.CodeLaws.{slot-low}
@@ -123,7 +123,6 @@ module _ (o : Plane) (T : List ℕ) (b w : ℕ) (k : Behind) (xs ys : List Place
   pub fit-left : (j : Behind) → Low j → Fitting o T b w k (xs ++ ys) → Fitting o T b w j xs
   fit-left j h f =
       record {
-        planed = f.planed;
         long = λ q l. f.long q (omega (arith, length-append xs ys));
         small = f.small;
         place = omega (arith, f.place, length-append xs ys);
@@ -136,7 +135,6 @@ module _ (o : Plane) (T : List ℕ) (b w : ℕ) (k : Behind) (xs ys : List Place
   fit-right T1 v r ev e f =
       let l : length T1 ≡ length T = ap length e.is ∙ places-length o T b w xs in
       record {
-        planed = f.planed;
         long = λ q m. omega (arith, f.long q (omega (arith, length-append xs ys)), l);
         small = omega (arith, f.small);
         place = omega (arith, f.place, length-append xs ys);
@@ -165,7 +163,7 @@ module _ (o : Plane) (T : List ℕ) (b w : ℕ) (p : Place) where
   unfolding ways_in
   fit-one k ps f =
       record {
-        index = slot-low o b f.planed (omega (arith, f.place));
+        index = slot-low o b (omega (arith, f.place));
         long = f.long b (omega arith);
         small = f.small;
         way = omega (arith, f.way);
@@ -406,33 +404,33 @@ module _ (T U : List ℕ) (q w : ℕ) (low : 4 * q + 4 ≤ w) where
       record { is = place-back p s l g h; keeps_to_lem = rw (h.code, h.first, h.later, h.count) (keeps o q w r p s b e) }
 
 -- entries of a plane are apart
-pub slots_apart : (o : Plane) (i q j : ℕ) → Planed o → (i ≡ q → ⊥) → 4 * slot o i ≤ j → j < 4 * slot o i + 4 → 4 * slot o q ≤ j → j < 4 * slot o q + 4 → ⊥
+pub slots_apart : (o : Plane) (i q j : ℕ) → (i ≡ q → ⊥) → 4 * slot o i ≤ j → j < 4 * slot o i + 4 → 4 * slot o q ≤ j → j < 4 * slot o q + 4 → ⊥
 unfolding slot
-slots_apart o i q j p n a b c d =
+slots_apart o i q j n a b c d =
     let e : i * o.factor + o.flags ≡ q * o.factor + o.flags = omega arith in
-    n (sym (digits_div i p.flag) ∙ ap (λ (x : ℕ). x / o.factor) e ∙ digits_div q p.flag)
+    n (sym (digits_div i o.flag) ∙ ap (λ (x : ℕ). x / o.factor) e ∙ digits_div q o.flag)
 
 -- places that were put are read back from any table that has their words and their ways
-pub places-back : (o : Plane) (T U : List ℕ) (from q w r : ℕ) (ps : List Place) → Planed o → from ≤ w → ((i : ℕ) → i < q + length ps → 4 * slot o i + 4 ≤ w) → w + ways_in ps ≤ length T → w + ways_in ps ≤ r
+pub places-back : (o : Plane) (T U : List ℕ) (from q w r : ℕ) (ps : List Place) → from ≤ w → ((i : ℕ) → i < q + length ps → 4 * slot o i + 4 ≤ w) → w + ways_in ps ≤ length T → w + ways_in ps ≤ r
     → ((i : ℕ) → i < length ps → Sound (get_or ps i (p_fork [])))
     → ((i j : ℕ) → q ≤ i → i < q + length ps → 4 * slot o i ≤ j → j < 4 * slot o i + 4 → get_or U j 0 ≡ get_or (put_places o T q w ps) j 0)
     → ((j : ℕ) → w ≤ j → j < w + ways_in ps → get_or U j 0 ≡ get_or (put_places o T q w ps) j 0)
     → (i : ℕ) → i < length ps → Back U from (slot o (q + i)) r (get_or ps i (p_fork []))
 unfolding put_places ways_in
-places-back o T U from q w r [] g below h l e s m n i b = absurd (omega arith)
-places-back o T U from q w r (p ∷ ps) g below h l e s m n zero b =
+places-back o T U from q w r [] below h l e s m n i b = absurd (omega arith)
+places-back o T U from q w r (p ∷ ps) below h l e s m n zero b =
     let z : q + 0 ≡ q = omega arith in
     let y = h q (omega arith) in
     rw z
     (one-back T U (slot o q) w y p from r (s 0 b) below (omega arith) (omega arith)
     (λ j u v. m q j (omega arith) (omega arith) u v
-    ∙ places-kept o (put_place T (slot o q) w p) (suc q) (w + way_count p) ps j (λ i c d x k. slots_apart o i q j g (λ f. omega arith) x k u v) (λ c d. omega arith))
+    ∙ places-kept o (put_place T (slot o q) w p) (suc q) (w + way_count p) ps j (λ i c d x k. slots_apart o i q j (λ f. omega arith) x k u v) (λ c d. omega arith))
     (λ j u v. n j u (omega arith)
     ∙ places-kept o (put_place T (slot o q) w p) (suc q) (w + way_count p) ps j (λ i c d x k. (let a = h i (omega arith) in omega arith)) (λ c d. omega arith)))
-places-back o T U from q w r (p ∷ ps) g below h l e s m n (suc i) b =
+places-back o T U from q w r (p ∷ ps) below h l e s m n (suc i) b =
     let z : q + suc i ≡ suc q + i = omega arith in
     rw z
-    (places-back o (put_place T (slot o q) w p) U from (suc q) (w + way_count p) r ps g (omega arith) (λ j c. (let a = h j (omega arith) in omega arith)) (omega (arith, place-length T (slot o q) w p)) (omega arith)
+    (places-back o (put_place T (slot o q) w p) U from (suc q) (w + way_count p) r ps (omega arith) (λ j c. (let a = h j (omega arith) in omega arith)) (omega (arith, place-length T (slot o q) w p)) (omega arith)
     (λ j c. s (suc j) (omega arith)) (λ i j c d. m i j (omega arith) (omega arith)) (λ j c d. n j (omega arith) (omega arith)) i (omega arith))
 
 -- so they are the table's places

@@ -4,7 +4,7 @@ use Rattle.rules.specs.Basics.{pick, has}
 use Rattle.rules.specs.Places.{Place, p_letter, p_caret, p_dollar, p_fork, p_end}
 use Rattle.table.specs.Table.{span}
 use Rattle.place_codes.specs.Codes.{letter_code, fork_code, later_word}
-use Rattle.place_codes.specs.Planes.{Planed, Low, slot}
+use Rattle.place_codes.specs.Planes.{Low, slot}
 use Rattle.place_codes.specs.declared.Plane.{Plane}
 use Rattle.place_codes.specs.declared.Behind.{Behind}
 
@@ -74,7 +74,6 @@ pub record PutOne (T exit : List ℕ) (q w r : ℕ) (p : Place) : Type 0 where
 -- the table has room in a plane for these places from place b on and for their ways from word w on,
 -- and all numbers fit their words; k is behind them
 pub record Fitting (o : Plane) (T : List ℕ) (b w : ℕ) (k : Behind) (pl : List Place) : Type 0 where
-  pub planed : Planed o
   pub long : (q : ℕ) → q < b + length pl → 4 * slot o q + 4 ≤ length T
   pub small : length T < 65536
   pub place : b + length pl ≤ 256
@@ -101,7 +100,6 @@ unfolding put_words slot
 put_single T o b w values = pick (ltb o.flags values) (put_words T (slot o b) w) (put_words T (slot o b) (place_words 30 0 0 0))
 
 pub record Single (T : List ℕ) (o : Plane) (b code k : ℕ) : Type 0 where
-  pub planed : Planed o
   pub place : b ≤ 256
   pub long : 4 * slot o b + 4 ≤ length T
   pub code_fits : code < 65536

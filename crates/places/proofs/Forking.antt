@@ -120,7 +120,7 @@ mutual
       let x : ℕ = (start_by o (suc b) (suc b + size t) k).here in
       omega (arith, used-ways o k (ways_in_turn lazy x k.here), two_ways lazy x k.here, few_ways o t (suc b) k)
   few_ways o (u_star lazy t) b k =
-      let r : Behind = round_by o (flags_copy o t) b k in
+      let r : Behind = round_by o (flags_copy o.factor t) b k in
       let x : ℕ = (start_by o (suc b) (suc b + size t) r).here in
       omega (arith, used-ways o k (ways_in_turn lazy x k.here), two_ways lazy x k.here, few_ways o t (suc b) r)
 
@@ -221,9 +221,9 @@ mutual
     plane-wayed o t (suc b) k s (omega arith),
   )
   plane-wayed o (u_star lazy t) b k s h = (
-    used-wayed o k (p_fork (ways_in_turn lazy (start_by o (suc b) (suc b + size t) (round_by o (flags_copy o t) b k)).here k.here))
-        (turn_ways lazy (start_by o (suc b) (suc b + size t) (round_by o (flags_copy o t) b k)).here k.here),
-    plane-wayed o t (suc b) (round_by o (flags_copy o t) b k) s (omega arith),
+    used-wayed o k (p_fork (ways_in_turn lazy (start_by o (suc b) (suc b + size t) (round_by o (flags_copy o.factor t) b k)).here k.here))
+        (turn_ways lazy (start_by o (suc b) (suc b + size t) (round_by o (flags_copy o.factor t) b k)).here k.here),
+    plane-wayed o t (suc b) (round_by o (flags_copy o.factor t) b k) s (omega arith),
   )
 
   planes_wayed : (o : Plane) (ts : Branches) (b : ℕ) (k : Behind) → WayedAll ts → sizes ts ≤ 256 → Every (thinned (planes_of o ts b k))

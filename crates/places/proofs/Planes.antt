@@ -95,9 +95,9 @@ module _ (o : Plane) where
   unfolding Deep
   deep-le d n n' h g = le_trans (pow_mono (let z : d + n' ≤ d + n = omega arith in z)) g
 
-  flag_is : (t : Unrolled) (d : ℕ) → o.factor ≤ 8 → Deep d (deeper (skips t) (nest t)) → (skips t ≡ flags_copy o t) × (skips t ≡ true → 2 ^ d ≤ 4) × Deep (deeper (skips t) d) (nest t)
+  flag_is : (t : Unrolled) (d : ℕ) → Deep d (deeper (skips t) (nest t)) → (skips t ≡ flags_copy o.factor t) × (skips t ≡ true → 2 ^ d ≤ 4) × Deep (deeper (skips t) d) (nest t)
   unfolding flags_copy Deep
-  flag_is t d l g = go (skips t) g
+  flag_is t d g = go (skips t) g
     where
       go : (s : Bool) → 2 ^ (d + deeper s (nest t)) ≤ o.factor → (s ≡ (ltb 1 o.factor && s)) × (s ≡ true → 2 ^ d ≤ 4) × (2 ^ (deeper s d + nest t) ≤ o.factor)
       go false h = (sym (no-and (ltb 1 o.factor)), λ e. absurd (true≢false (sym e)), h)
@@ -110,85 +110,82 @@ module _ (o : Plane) where
           let h2 : 2 ^ (suc d + nest t) ≤ o.factor = rw (← e) h in
           let a : 2 ^ suc d ≤ 2 ^ (suc d + nest t) = pow_mono (let z : suc d ≤ suc d + nest t = omega arith in z) in
           let one : 1 ≤ 2 ^ d = pow_pos d in
-          (rw (lt-ltb 1 o.factor (omega arith)) refl, λ z. omega arith, h2)
+          (rw (lt-ltb 1 o.factor (omega arith)) refl, λ z. omega (arith, o.few), h2)
 
   abbrev shown : Flagged → Place
   shown p = with_flags p o.flags
 
   map-append : (xs ys : List Flagged) → map shown (xs ++ ys) ≡ map shown xs ++ map shown ys
-  unfolding map
   map-append [] ys = refl
   map-append (x ∷ xs) ys = ap (λ (l : List Place). shown x ∷ l) (map-append xs ys)
 
-  module _ (few : o.factor ≤ 8) where
-    mutual
-      unfolding plane_of code map nest
+  mutual
+    unfolding plane_of code nest
 
-      plane-is : (t : Unrolled) (d b : ℕ) (k : Behind) (f : ℕ → ℕ) → Deep d (nest t) → Matches d k f → plane_of o t b k ≡ map shown (code o.factor t d b f)
-      plane-is (u_letter c) d b k f g m = ap (λ (p : Place). p ∷ []) (place_is d k f (p_letter c k.set) (λ x. p_letter c (f (full d))) m (λ l. ap (p_letter c) m.set))
-      plane-is u_caret d b k f g m = ap (λ (p : Place). p ∷ []) (place_is d k f (p_caret k.here) (λ x. p_caret (f x)) m (λ l. ap p_caret (m.here l)))
-      plane-is u_dollar d b k f g m = ap (λ (p : Place). p ∷ []) (place_is d k f (p_dollar k.here) (λ x. p_dollar (f x)) m (λ l. ap p_dollar (m.here l)))
-      plane-is u_empty d b k f g m = refl
-      plane-is (u_seq x y) d b k f g m =
-          ap₂ ◌++◌
-          (plane-is x d b (start_by o (b + size x) (b + size x + size y) k) (start_of o.factor y (b + size x) f) (deep-le d (max (nest x) (nest y)) (nest x) (omega arith) g) (start-matches y d (b + size x) k f m))
-          (plane-is y d (b + size x) k f (deep-le d (max (nest x) (nest y)) (nest y) (omega arith) g) m)
-          ∙ sym (map-append (code o.factor x d b (start_of o.factor y (b + size x) f)) (code o.factor y d (b + size x) f))
-      plane-is (u_alt ts) d b k f g m =
-          ap₂ ◌∷◌ (place_is d k f (p_fork (starts_in o ts (suc b) k.here)) (λ x. p_fork (starts_of o.factor ts (suc b) f x)) m (λ l. ap p_fork (starts_are ts d (suc b) k f m l)))
-          (planes_are ts d (suc b) k f g m)
-      plane-is (u_opt lazy t) d b k f g m =
-          ap₂ ◌∷◌
-          (place_is d k f (p_fork (ways_in_turn lazy (start_by o (suc b) (suc b + size t) k).here k.here)) (λ x. p_fork (ways_in_turn lazy (start_of o.factor t (suc b) f x) (f x))) m
-          (λ l. ap₂ (λ (x y : ℕ). p_fork (ways_in_turn lazy x y)) ((start-matches t d (suc b) k f m).here l) (m.here l)))
-          (plane-is t d (suc b) k f g m)
-      plane-is (u_star lazy t) d b k f g m =
-          let z = flag_is t d few g in
-          let r : Matches (deeper (skips t) d) (round_by o (flags_copy o t) b k) (round_end o.factor (skips t) d b f) = round_matches (skips t) (flags_copy o t) d b k f z.0 z.1 m in
-          ap₂ ◌∷◌
-          (place_is d k f (p_fork (ways_in_turn lazy (start_by o (suc b) (suc b + size t) (round_by o (flags_copy o t) b k)).here k.here))
-          (λ x. p_fork (ways_in_turn lazy (start_of o.factor t (suc b) (round_end o.factor (skips t) d b f) x) (f x))) m
-          (λ l. ap₂ (λ (x y : ℕ). p_fork (ways_in_turn lazy x y))
-          ((start-matches t (deeper (skips t) d) (suc b) (round_by o (flags_copy o t) b k) (round_end o.factor (skips t) d b f) r).here (wider (skips t) d o.flags l)) (m.here l)))
-          (plane-is t (deeper (skips t) d) (suc b) (round_by o (flags_copy o t) b k) (round_end o.factor (skips t) d b f) z.2 r)
+    plane-is : (t : Unrolled) (d b : ℕ) (k : Behind) (f : ℕ → ℕ) → Deep d (nest t) → Matches d k f → plane_of o t b k ≡ map shown (code o.factor t d b f)
+    plane-is (u_letter c) d b k f g m = ap (λ (p : Place). p ∷ []) (place_is d k f (p_letter c k.set) (λ x. p_letter c (f (full d))) m (λ l. ap (p_letter c) m.set))
+    plane-is u_caret d b k f g m = ap (λ (p : Place). p ∷ []) (place_is d k f (p_caret k.here) (λ x. p_caret (f x)) m (λ l. ap p_caret (m.here l)))
+    plane-is u_dollar d b k f g m = ap (λ (p : Place). p ∷ []) (place_is d k f (p_dollar k.here) (λ x. p_dollar (f x)) m (λ l. ap p_dollar (m.here l)))
+    plane-is u_empty d b k f g m = refl
+    plane-is (u_seq x y) d b k f g m =
+        ap₂ ◌++◌
+        (plane-is x d b (start_by o (b + size x) (b + size x + size y) k) (start_of o.factor y (b + size x) f) (deep-le d (max (nest x) (nest y)) (nest x) (omega arith) g) (start-matches y d (b + size x) k f m))
+        (plane-is y d (b + size x) k f (deep-le d (max (nest x) (nest y)) (nest y) (omega arith) g) m)
+        ∙ sym (map-append (code o.factor x d b (start_of o.factor y (b + size x) f)) (code o.factor y d (b + size x) f))
+    plane-is (u_alt ts) d b k f g m =
+        ap₂ ◌∷◌ (place_is d k f (p_fork (starts_in o ts (suc b) k.here)) (λ x. p_fork (starts_of o.factor ts (suc b) f x)) m (λ l. ap p_fork (starts_are ts d (suc b) k f m l)))
+        (planes_are ts d (suc b) k f g m)
+    plane-is (u_opt lazy t) d b k f g m =
+        ap₂ ◌∷◌
+        (place_is d k f (p_fork (ways_in_turn lazy (start_by o (suc b) (suc b + size t) k).here k.here)) (λ x. p_fork (ways_in_turn lazy (start_of o.factor t (suc b) f x) (f x))) m
+        (λ l. ap₂ (λ (x y : ℕ). p_fork (ways_in_turn lazy x y)) ((start-matches t d (suc b) k f m).here l) (m.here l)))
+        (plane-is t d (suc b) k f g m)
+    plane-is (u_star lazy t) d b k f g m =
+        let z = flag_is t d g in
+        let r : Matches (deeper (skips t) d) (round_by o (flags_copy o.factor t) b k) (round_end o.factor (skips t) d b f) = round_matches (skips t) (flags_copy o.factor t) d b k f z.0 z.1 m in
+        ap₂ ◌∷◌
+        (place_is d k f (p_fork (ways_in_turn lazy (start_by o (suc b) (suc b + size t) (round_by o (flags_copy o.factor t) b k)).here k.here))
+        (λ x. p_fork (ways_in_turn lazy (start_of o.factor t (suc b) (round_end o.factor (skips t) d b f) x) (f x))) m
+        (λ l. ap₂ (λ (x y : ℕ). p_fork (ways_in_turn lazy x y))
+        ((start-matches t (deeper (skips t) d) (suc b) (round_by o (flags_copy o.factor t) b k) (round_end o.factor (skips t) d b f) r).here (wider (skips t) d o.flags l)) (m.here l)))
+        (plane-is t (deeper (skips t) d) (suc b) (round_by o (flags_copy o.factor t) b k) (round_end o.factor (skips t) d b f) z.2 r)
 
-      planes_are : (ts : Branches) (d b : ℕ) (k : Behind) (f : ℕ → ℕ) → Deep d (nests ts) → Matches d k f → planes_of o ts b k ≡ map shown (codes o.factor ts d b f)
-      planes_are u_nil d b k f g m = refl
-      planes_are (u_cons t ts) d b k f g m =
-          ap₂ ◌++◌ (plane-is t d b k f (deep-le d (max (nest t) (nests ts)) (nest t) (omega arith) g) m) (planes_are ts d (b + size t) k f (deep-le d (max (nest t) (nests ts)) (nests ts) (omega arith) g) m)
-          ∙ sym (map-append (code o.factor t d b f) (codes o.factor ts d (b + size t) f))
+    planes_are : (ts : Branches) (d b : ℕ) (k : Behind) (f : ℕ → ℕ) → Deep d (nests ts) → Matches d k f → planes_of o ts b k ≡ map shown (codes o.factor ts d b f)
+    planes_are u_nil d b k f g m = refl
+    planes_are (u_cons t ts) d b k f g m =
+        ap₂ ◌++◌ (plane-is t d b k f (deep-le d (max (nest t) (nests ts)) (nest t) (omega arith) g) m) (planes_are ts d (b + size t) k f (deep-le d (max (nest t) (nests ts)) (nests ts) (omega arith) g) m)
+        ∙ sym (map-append (code o.factor t d b f) (codes o.factor ts d (b + size t) f))
 
-    -- all places of a pattern, END last
-    pub plane-whole : (t : Unrolled) → o.factor ≡ 2 ^ nest t → plane_of o t 0 (state_by o 1 (size t)) ++ (p_end ∷ []) ≡ map shown (flagged_places o.factor t)
-    unfolding flagged_places map Deep
-    plane-whole t e =
-        let m : Matches 0 (state_by o 1 (size t)) (state_at o.factor (size t)) = state_matches 0 (size t) (behind 1 0 0) refl in
-        let g : 2 ^ (0 + nest t) ≤ o.factor = let z : 0 + nest t ≡ nest t = omega arith in rw (z, ← e) (omega arith) in
-        ap₂ ◌++◌ (plane-is t 0 0 (state_by o 1 (size t)) (state_at o.factor (size t)) g m) (ap (λ (p : Place). p ∷ []) (sym (either (ltb o.flags (2 ^ 0)))))
-        ∙ sym (map-append (code o.factor t 0 0 (state_at o.factor (size t))) (flagged 0 (λ x. p_end) ∷ []))
-      where
-        either : (c : Bool) → pick c p_end p_end ≡ p_end
-        either true = refl
-        either false = refl
+  -- all places of a pattern, END last
+  pub plane-whole : (t : Unrolled) → o.factor ≡ 2 ^ nest t → plane_of o t 0 (state_by o 1 (size t)) ++ (p_end ∷ []) ≡ map shown (flagged_places o.factor t)
+  unfolding flagged_places Deep
+  plane-whole t e =
+      let m : Matches 0 (state_by o 1 (size t)) (state_at o.factor (size t)) = state_matches 0 (size t) (behind 1 0 0) refl in
+      let g : 2 ^ (0 + nest t) ≤ o.factor = let z : 0 + nest t ≡ nest t = omega arith in rw (z, ← e) (omega arith) in
+      ap₂ ◌++◌ (plane-is t 0 0 (state_by o 1 (size t)) (state_at o.factor (size t)) g m) (ap (λ (p : Place). p ∷ []) (sym (either (ltb o.flags (2 ^ 0)))))
+      ∙ sym (map-append (code o.factor t 0 0 (state_at o.factor (size t))) (flagged 0 (λ x. p_end) ∷ []))
+    where
+      either : (c : Bool) → pick c p_end p_end ≡ p_end
+      either true = refl
+      either false = refl
 
 -- ---- entry by entry
 
 map_at : (o : Plane) (fs : List Flagged) (q : ℕ) → q < length fs → get_or (map (shown o) fs) q (p_fork []) ≡ shown o (get_or fs q no_place)
-unfolding map
 map_at o [] q h = absurd (not-suc-le-zero h)
 map_at o (f ∷ fs) zero h = refl
 map_at o (f ∷ fs) (suc q) h = map_at o fs q (omega arith)
 
 -- a place with the flags of a plane is the entry of the plane
-pub plane-at : (o : Plane) (t : Unrolled) → o.factor ≤ 8 → o.flags < o.factor → o.factor ≡ 2 ^ nest t → (q : ℕ) → q < suc (size t)
+pub plane-at : (o : Plane) (t : Unrolled) → o.factor ≡ 2 ^ nest t → (q : ℕ) → q < suc (size t)
     → get_or (thinned (plane_of o t 0 (state_by o 1 (size t))) ++ (p_end ∷ [])) q (p_fork []) ≡ get_or (thinned (places t)) (slot o q) (p_fork [])
 unfolding places spread slot thinned thin_place
-plane-at o t few l e q h =
+plane-at o t e q h =
     let F : ℕ = o.factor in
     let Q : List Flagged = flagged_places F t in
     let n : length Q ≡ suc (size t) = rw (e, flagged-length t) in
     let a : thinned (plane_of o t 0 (state_by o 1 (size t))) ++ (p_end ∷ []) ≡ thinned (map (shown o) Q) =
-    sym (thinned-append (plane_of o t 0 (state_by o 1 (size t))) (p_end ∷ [])) ∙ ap thinned (plane-whole o few t e) in
+    sym (thinned-append (plane_of o t 0 (state_by o 1 (size t))) (p_end ∷ [])) ∙ ap thinned (plane-whole o t e) in
     let b : get_or (places t) (slot o q) (p_fork []) ≡ shown o (get_or Q q no_place) =
-    rw (← e) (get_d_tabulate (length Q * F) (λ s. with_flags (get_or Q (s / F) no_place) (s % F)) (slot o q) (p_fork []) (rw n (state_lt F (suc (size t)) q o.flags h l)) ∙ rw (digits_div q l, digits_mod q l)) in
+    rw (← e) (get_d_tabulate (length Q * F) (λ s. with_flags (get_or Q (s / F) no_place) (s % F)) (slot o q) (p_fork []) (rw n (state_lt F (suc (size t)) q o.flags h o.flag)) ∙ rw (digits_div q o.flag, digits_mod q o.flag)) in
     ap (λ (ps : List Place). get_or ps q (p_fork [])) a ∙ thinned-at (map (shown o) Q) q ∙ ap thin_place (map_at o Q q (rw n h) ∙ sym b) ∙ sym (thinned-at (places t) (slot o q))

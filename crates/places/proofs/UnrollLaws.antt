@@ -1,7 +1,8 @@
 -- Laws of `unroll_plane` and `unroll`: in each plane the whole tree is put, and END behind it; what
 -- was put in a plane is kept by those behind it; all of it is read back, and keeps to what the walk
 -- relies on.
-use mathlib.Core.Path.{◌≡◌, refl, sym, ap, ◌∙◌}
+use Rattle.std.proofs.Math.Bridge.{le_prop}
+use mathlib.Core.Path.{ap₂, subst, ◌≡◌, refl, sym, ap, ◌∙◌}
 use mathlib.Core.Bool.{Bool, true, false}
 use mathlib.Core.List.{List, [], ◌∷◌}
 use Prim.Native.Nat.{ℕ, zero, suc, ◌+◌, ◌*◌, ◌-◌, ◌/◌, ◌%◌, ◌^◌, ◌≤◌, ◌<◌}
@@ -22,7 +23,7 @@ use Rattle.laws.proofs.Distinct.{thinned-length}
 use Rattle.rules.specs.Working.{thinned}
 use Rattle.laws.proofs.ThinPlaces.{thinned-spelt}
 use Rattle.table.specs.Table.{code_at, first_at, later_at, count_at, places_from, places_in}
-use Rattle.place_codes.specs.Planes.{Planed, Low, slot, behind, state_by}
+use Rattle.place_codes.specs.Planes.{Low, slot, state_by}
 use Rattle.place_codes.specs.declared.Plane.{Plane}
 use Rattle.place_codes.specs.declared.Behind.{Behind}
 use Rattle.place_codes.proofs.CodeLaws.{slot-low, product_low}
@@ -44,25 +45,14 @@ module _ (o : Plane) (s : List ℕ) (top P : ℕ) (T : List ℕ) (w : ℕ) (h : 
   last-place : size (unroll h.tree) ≡ P - 1
   last-place = omega (arith, h.count, unroll-size h.tree)
 
-  pub last-slot : Planed o × (P - 1 ≤ 256)
-  last-slot = (h.planed, omega (arith, h.few))
-
-  pub last_fits : Fits-in w64 ((P - 1) * o.factor)
-  last_fits = record { fits = omega (arith, product_low o (P - 1) h.planed (omega (arith, h.few))) }
-
-  pub behind-is : (x : ℕ) → (x ≡ slot o (P - 1)) × (x < 4096) → behind 1 x ((P - 1) * o.factor) ≡ state_by o 1 (P - 1)
-  unfolding state_by
-  behind-is x e =
-      ap (λ (v : ℕ). behind 1 v ((P - 1) * o.factor)) e.0 ∙ ap (behind 1 (slot o (P - 1))) (let z : (P - 1) * o.factor ≡ (P - 1) * o.factor + 0 = omega arith in z)
-
   end_low : Low (state_by o 1 (P - 1))
   unfolding state_by
   end_low =
       record {
         some = omega arith;
         few = omega arith;
-        here = slot-low o (P - 1) h.planed (omega (arith, h.few));
-        set = omega (arith, product_low o (P - 1) h.planed (omega (arith, h.few)));
+        here = slot-low o (P - 1) (omega (arith, h.few));
+        set = omega (arith, product_low o (P - 1) (omega (arith, h.few)));
       }
 
   long : (k : Behind) → length (tree_places o h.tree 0 k) ≡ P - 1
@@ -86,7 +76,6 @@ module _ (o : Plane) (s : List ℕ) (top P : ℕ) (T : List ℕ) (w : ℕ) (h : 
           tree = h.tree;
           top = h.is;
           fits = record {
-            planed = h.planed;
             long = λ q l. h.long q (omega (arith, long k));
             small = h.small;
             place = omega (arith, long k, h.few);
@@ -95,7 +84,11 @@ module _ (o : Plane) (s : List ℕ) (top P : ℕ) (T : List ℕ) (w : ℕ) (h : 
           };
         }
 
-    module _ (T1 : List ℕ) (r : ℕ) (d : (g : Emitting o s top T 0 w k) → Emitted o T T1 0 w r (tree_places o g.tree 0 k)) (q : ℕ) (eq : (q ≡ slot o (P - 1)) × (q < 4096)) where
+    here-is : k.here ≡ slot o (P - 1)
+    unfolding state_by
+    here-is = ap (λ (v : Behind). v.here) ek
+
+    module _ (T1 : List ℕ) (r : ℕ) (d : (g : Emitting o s top T 0 w k) → Emitted o T T1 0 w r (tree_places o g.tree 0 k)) where
       put : Emitted o T T1 0 w r (tree_places o h.tree 0 (state_by o 1 (P - 1)))
       unfolding plane-emitting
       put = rw (← ek) (d plane-emitting)
@@ -103,40 +96,45 @@ module _ (o : Plane) (s : List ℕ) (top P : ℕ) (T : List ℕ) (w : ℕ) (h : 
       same : length T1 ≡ length T
       same = ap length put.is ∙ places-length o T 0 w (tree_places o h.tree 0 (state_by o 1 (P - 1)))
 
-      pub end-words : Wording T1 q 30 0 0 0
+      pub end-words : Wording T1 k.here 30 0 0 0
       end-words =
           record {
-            long = rw eq.0 (omega (arith, h.long (P - 1) (omega (arith, some_place)), same));
+            long = rw here-is (omega (arith, h.long (P - 1) (omega (arith, some_place)), same));
             code_fits = omega arith;
             first_fits = omega arith;
             later_fits = omega arith;
             count_fits = omega arith;
           }
 
-      pub plane-done : (T2 : List ℕ) (to : ℕ) → (to ≡ r) × (T2 ≡ put_words T1 q (place_words 30 0 0 0)) → Emitted o T T2 0 w to (plane_places o h.tree P)
+      pub plane-done : (T2 : List ℕ) (to : ℕ) → (to ≡ r) × (T2 ≡ put_words T1 k.here (place_words 30 0 0 0)) → Emitted o T T2 0 w to (plane_places o h.tree P)
       unfolding put_place way_count
       plane-done T2 to e =
-          let z : PutOne T1 T2 (slot o (P - 1)) r to p_end = record { is = e.1 ∙ ap (λ (x : ℕ). put_words T1 x (place_words 30 0 0 0)) eq.0; way = omega (arith, e.0) } in
+          let z : PutOne T1 T2 (slot o (P - 1)) r to p_end = record { is = e.1 ∙ ap (λ (x : ℕ). put_words T1 x (place_words 30 0 0 0)) here-is; way = omega (arith, e.0) } in
           emitted_two o T T1 T2 0 w (P - 1) r to (tree_places o h.tree 0 (state_by o 1 (P - 1))) (p_end ∷ []) (omega (arith, long (state_by o 1 (P - 1)))) put
           (emitted_one o T1 (P - 1) r p_end T2 to z)
 
-      pub plane-length : (T2 : List ℕ) → T2 ≡ put_words T1 q (place_words 30 0 0 0) → length T2 ≡ length T
-      plane-length T2 e = ap length e ∙ words_length T1 q 30 0 0 0 ∙ same
+      pub plane-length : (T2 : List ℕ) → T2 ≡ put_words T1 k.here (place_words 30 0 0 0) → length T2 ≡ length T
+      plane-length T2 e = ap length e ∙ words_length T1 k.here 30 0 0 0 ∙ same
 
 -- ---- all planes
 
-abbrev pub plane : ℕ → ℕ → Plane
-plane F flags = record { factor = F; flags = flags }
+abbrev pub plane : (F flags : ℕ) → F ≤ 8 → flags < F → Plane
+plane F flags few flag = record { factor = F; flags = flags; few = few; flag = flag }
+
+-- a plane is known by its numbers
+plane_same : (F a b : ℕ) (u v : F ≤ 8) (la : a < F) (lb : b < F) → a ≡ b → plane F a u la ≡ plane F b v lb
+plane_same F a b u v la lb e =
+    subst (λ (x : ℕ). (z : x < F) → plane F a u la ≡ plane F x v z) e (λ z. ap₂ (plane F a) (le_prop u v) (le_prop la z)) lb
 
 -- an entry is one of P times F
-slot-in : (F flags q P : ℕ) → q < P → flags < F → slot (plane F flags) q < P * F
+slot-in : (F flags q P : ℕ) (u : F ≤ 8) (l : flags < F) → q < P → slot (plane F flags u l) q < P * F
 unfolding slot
-slot-in F flags q P h l = digits_lt h l
+slot-in F flags q P u l h = digits_lt h l
 
 -- entries of two planes are apart
-planes_apart : (F a b i q j : ℕ) → a < F → b < F → (a ≡ b → ⊥) → 4 * slot (plane F a) i ≤ j → j < 4 * slot (plane F a) i + 4 → 4 * slot (plane F b) q ≤ j → j < 4 * slot (plane F b) q + 4 → ⊥
+planes_apart : (F a b i q j : ℕ) (u v : F ≤ 8) (la : a < F) (lb : b < F) → (a ≡ b → ⊥) → 4 * slot (plane F a u la) i ≤ j → j < 4 * slot (plane F a u la) i + 4 → 4 * slot (plane F b v lb) q ≤ j → j < 4 * slot (plane F b v lb) q + 4 → ⊥
 unfolding slot
-planes_apart F a b i q j la lb n u v x y =
+planes_apart F a b i q j u v la lb n c d x y =
     let e : i * F + a ≡ q * F + b = omega arith in
     n (sym (digits_mod i la) ∙ ap (λ (z : ℕ). z % F) e ∙ digits_mod q lb)
 
@@ -158,7 +156,7 @@ pub record Filled (s : List ℕ) (top P F : ℕ) (T0 T : List ℕ) (way flags : 
   pub low : 4 * (P * F) ≤ way
   pub high : way + 3 * (P * (F - flags)) ≤ 7 * (P * F)
   pub kept : (j : ℕ) → way ≤ j → get_or T j 0 ≡ get_or T0 j 0
-  pub planes : (h : Unrolling s top P F T0) (a : ℕ) → a < flags → PlaneIn h.tree P (plane F a) (P * F) T way
+  pub planes : (h : Unrolling s top P F T0) (a : ℕ) (l : a < F) → a < flags → PlaneIn h.tree P (plane F a h.nested l) (P * F) T way
 
 module _ (s : List ℕ) (top P F : ℕ) (T0 : List ℕ) where
   pub all_fits : Unrolling s top P F T0 → P * F ≤ 2048
@@ -173,53 +171,52 @@ module _ (s : List ℕ) (top P F : ℕ) (T0 : List ℕ) where
         low = omega arith;
         high = rw z (omega arith);
         kept = λ j l. refl;
-        planes = λ g a l. absurd (omega arith);
+        planes = λ g a l m. absurd (omega arith);
       }
 
-  module _ (T : List ℕ) (way flags : ℕ) (f : Filled s top P F T0 T way flags) (more : flags < F) where
+  module _ (T : List ℕ) (way flags : ℕ) (f : Filled s top P F T0 T way flags) (few : F ≤ 8) (more : flags < F) where
     turn : P * (F - flags) ≡ P + P * (F - (flags + 1))
     turn = let z : F - flags ≡ suc (F - (flags + 1)) = omega arith in rw z (omega arith)
 
-    pub flat : Unrolling s top P F T0 → Flat (plane F flags) s top P T way
+    pub flat : Unrolling s top P F T0 → Flat (plane F flags few more) s top P T way
     flat h =
         record {
           tree = h.tree;
           is = h.is;
           count = h.count;
           few = h.few;
-          planed = record { few = h.nested; flag = more };
-          long = λ q l. omega (arith, slot-in F flags q P l more, h.long, f.len);
+          long = λ q l. omega (arith, slot-in F flags q P few more l, h.long, f.len);
           small = omega (arith, h.small, f.len);
           way = omega (arith, f.high, turn, h.long, f.len);
         }
 
     module _ (h0 : Unrolling s top P F T0) (T1 : List ℕ) (r : ℕ)
-        (d : (g : Flat (plane F flags) s top P T way) → Emitted (plane F flags) T T1 0 way r (plane_places (plane F flags) g.tree P)) where
-      put_by : (h : Unrolling s top P F T0) → Emitted (plane F flags) T T1 0 way r (plane_places (plane F flags) h.tree P)
+        (d : (g : Flat (plane F flags few more) s top P T way) → Emitted (plane F flags few more) T T1 0 way r (plane_places (plane F flags few more) g.tree P)) where
+      put_by : (h : Unrolling s top P F T0) → Emitted (plane F flags few more) T T1 0 way r (plane_places (plane F flags few more) h.tree P)
       unfolding flat
       put_by h = d (flat h)
 
-      count_by : (h : Unrolling s top P F T0) → length (plane_places (plane F flags) h.tree P) ≡ P
+      count_by : (h : Unrolling s top P F T0) → length (plane_places (plane F flags few more) h.tree P) ≡ P
       unfolding flat
-      count_by h = long_all (plane F flags) s top P T way (flat h)
+      count_by h = long_all (plane F flags few more) s top P T way (flat h)
 
-      few_by : (h : Unrolling s top P F T0) → ways_in (plane_places (plane F flags) h.tree P) ≤ 3 * P
+      few_by : (h : Unrolling s top P F T0) → ways_in (plane_places (plane F flags few more) h.tree P) ≤ 3 * P
       unfolding flat
-      few_by h = ways-all (plane F flags) s top P T way (flat h)
+      few_by h = ways-all (plane F flags few more) s top P T way (flat h)
 
       pub more-length : length T1 ≡ length T
-      more-length = ap length (put_by h0).is ∙ places-length (plane F flags) T 0 way (plane_places (plane F flags) h0.tree P)
+      more-length = ap length (put_by h0).is ∙ places-length (plane F flags few more) T 0 way (plane_places (plane F flags few more) h0.tree P)
 
       -- a word that is no word of this plane is as it was
-      kept_by : (j : ℕ) → ((i : ℕ) → i < P → 4 * slot (plane F flags) i ≤ j → j < 4 * slot (plane F flags) i + 4 → ⊥) → (way ≤ j → j < r → ⊥) → get_or T1 j 0 ≡ get_or T j 0
+      kept_by : (j : ℕ) → ((i : ℕ) → i < P → 4 * slot (plane F flags few more) i ≤ j → j < 4 * slot (plane F flags few more) i + 4 → ⊥) → (way ≤ j → j < r → ⊥) → get_or T1 j 0 ≡ get_or T j 0
       kept_by j a b =
           ap (λ (U : List ℕ). get_or U j 0) (put_by h0).is
-          ∙ places-kept (plane F flags) T 0 way (plane_places (plane F flags) h0.tree P) j (λ i c e u v. a i (omega (arith, count_by h0)) u v) (λ u v. b u (omega (arith, (put_by h0).way)))
+          ∙ places-kept (plane F flags few more) T 0 way (plane_places (plane F flags few more) h0.tree P) j (λ i c e u v. a i (omega (arith, count_by h0)) u v) (λ u v. b u (omega (arith, (put_by h0).way)))
 
-      planes_more : (h : Unrolling s top P F T0) (a : ℕ) → a < flags + 1 → PlaneIn h.tree P (plane F a) (P * F) T1 r
-      planes_more h a l = go (ltb a flags) refl
+      planes_more : (h : Unrolling s top P F T0) (a : ℕ) (l : a < F) → a < flags + 1 → PlaneIn h.tree P (plane F a h.nested l) (P * F) T1 r
+      planes_more h a l below = go (ltb a flags) refl
         where
-          old : a < flags → PlaneIn h.tree P (plane F a) (P * F) T way → PlaneIn h.tree P (plane F a) (P * F) T1 r
+          old : a < flags → PlaneIn h.tree P (plane F a h.nested l) (P * F) T way → PlaneIn h.tree P (plane F a h.nested l) (P * F) T1 r
           old m x =
               record {
                 from = x.from;
@@ -228,16 +225,16 @@ module _ (s : List ℕ) (top P F : ℕ) (T0 : List ℕ) where
                 high = omega (arith, x.high, (put_by h).way);
                 long = omega (arith, x.long, more-length);
                 slots =
-                    λ i j b u v. kept_by j (λ q c y z. planes_apart F flags a q i j more (omega arith) (λ e. omega arith) y z u v)
-                    (λ y z. (let n = slot-in F a i P b (omega arith) in omega (arith, f.low)))
+                    λ i j b u v. kept_by j (λ q c y z. planes_apart F flags a q i j few h.nested more l (λ e. omega arith) y z u v)
+                    (λ y z. (let n = slot-in F a i P h.nested l b in omega (arith, f.low)))
                     ∙ x.slots i j b u v;
                 ways =
-                    λ j u v. kept_by j (λ q c y z. (let n = slot-in F flags q P c more in omega (arith, x.low))) (λ y z. omega (arith, x.high)) ∙ x.ways j u v;
+                    λ j u v. kept_by j (λ q c y z. (let n = slot-in F flags q P few more c in omega (arith, x.low))) (λ y z. omega (arith, x.high)) ∙ x.ways j u v;
               }
 
-          new : a ≡ flags → PlaneIn h.tree P (plane F a) (P * F) T1 r
+          new : a ≡ flags → PlaneIn h.tree P (plane F a h.nested l) (P * F) T1 r
           new e =
-              rw e (record {
+              subst (λ (o : Plane). PlaneIn h.tree P o (P * F) T1 r) (plane_same F flags a few h.nested more l (sym e)) (record {
                 from = T;
                 at = way;
                 low = f.low;
@@ -247,8 +244,8 @@ module _ (s : List ℕ) (top P F : ℕ) (T0 : List ℕ) where
                 ways = λ j u v. ap (λ (U : List ℕ). get_or U j 0) (put_by h).is;
               })
 
-          go : (t : Bool) → ltb a flags ≡ t → PlaneIn h.tree P (plane F a) (P * F) T1 r
-          go true e = let m = ltb-true a flags e in old m (f.planes h a m)
+          go : (t : Bool) → ltb a flags ≡ t → PlaneIn h.tree P (plane F a h.nested l) (P * F) T1 r
+          go true e = let m = ltb-true a flags e in old m (f.planes h a l m)
           go false e = let m = ltb-false a flags e in new (omega arith)
 
       pub more-filled : Filled s top P F T0 T1 r (flags + 1)
@@ -258,7 +255,7 @@ module _ (s : List ℕ) (top P F : ℕ) (T0 : List ℕ) where
             len = more-length ∙ f.len;
             low = omega (arith, (put_by h0).way, f.low);
             high = omega (arith, (put_by h0).way, few_by h0, turn, f.high);
-            kept = λ j l. kept_by j (λ i c y z. (let n = slot-in F flags i P c more in omega (arith, f.low, (put_by h0).way))) (λ y z. omega arith)
+            kept = λ j l. kept_by j (λ i c y z. (let n = slot-in F flags i P few more c in omega (arith, f.low, (put_by h0).way))) (λ y z. omega arith)
                 ∙ f.kept j (omega (arith, (put_by h0).way));
             planes = planes_more;
           }
@@ -282,32 +279,32 @@ module _ (s : List ℕ) (top P F : ℕ) (T0 : List ℕ) where
     places-long = thinned-length (places (unroll h.tree)) ∙ places-counted h.tree bounds ∙ rw (← h.count, ← h.factor)
 
     module _ (a : ℕ) (l : a < F) where
-      in_plane : PlaneIn h.tree P (plane F a) (P * F) T way
-      in_plane = f.planes h a (omega arith)
+      in_plane : PlaneIn h.tree P (plane F a h.nested l) (P * F) T way
+      in_plane = f.planes h a l (omega arith)
 
       last-is : P - 1 ≡ size (unroll h.tree)
       last-is = omega (arith, t-size)
 
-      entry : (q : ℕ) → q < P → get_or (plane_places (plane F a) h.tree P) q (p_fork []) ≡ get_or (thinned (places (unroll h.tree))) (slot (plane F a) q) (p_fork [])
-      entry q m = rw last-is (plane-at (plane F a) (unroll h.tree) h.nested l factor-is q (omega (arith, t-size)))
+      entry : (q : ℕ) → q < P → get_or (plane_places (plane F a h.nested l) h.tree P) q (p_fork []) ≡ get_or (thinned (places (unroll h.tree))) (slot (plane F a h.nested l) q) (p_fork [])
+      entry q m = rw last-is (plane-at (plane F a h.nested l) (unroll h.tree) factor-is q (omega (arith, t-size)))
 
-      count : length (plane_places (plane F a) h.tree P) ≡ P
+      count : length (plane_places (plane F a h.nested l) h.tree P) ≡ P
       unfolding places_of
-      count = omega (arith, length-append (tree_places (plane F a) h.tree 0 (state_by (plane F a) 1 (P - 1))) (p_end ∷ []), tree-length (plane F a) h.tree 0 (state_by (plane F a) 1 (P - 1)), h.count)
+      count = omega (arith, length-append (tree_places (plane F a h.nested l) h.tree 0 (state_by (plane F a h.nested l) 1 (P - 1))) (p_end ∷ []), tree-length (plane F a h.nested l) h.tree 0 (state_by (plane F a h.nested l) 1 (P - 1)), h.count)
 
-      sound : (q : ℕ) → q < length (plane_places (plane F a) h.tree P) → Sound (get_or (plane_places (plane F a) h.tree P) q (p_fork []))
+      sound : (q : ℕ) → q < length (plane_places (plane F a h.nested l) h.tree P) → Sound (get_or (plane_places (plane F a h.nested l) h.tree P) q (p_fork []))
       sound q m = (
-        rw (entry q (omega (arith, count))) (thinned-spelt h.tree (lettered h.tree h.spelt) (slot (plane F a) q)),
-        whole-wayed (plane F a) h.tree (state_by (plane F a) 1 (P - 1)) (omega (arith, t-size, h.few)) q m,
+        rw (entry q (omega (arith, count))) (thinned-spelt h.tree (lettered h.tree h.spelt) (slot (plane F a h.nested l) q)),
+        whole-wayed (plane F a h.nested l) h.tree (state_by (plane F a h.nested l) 1 (P - 1)) (omega (arith, t-size, h.few)) q m,
       )
 
-      back : (q : ℕ) → q < P → Back T (4 * (P * F)) (slot (plane F a) q) (length T) (get_or (thinned (places (unroll h.tree))) (slot (plane F a) q) (p_fork []))
+      back : (q : ℕ) → q < P → Back T (4 * (P * F)) (slot (plane F a h.nested l) q) (length T) (get_or (thinned (places (unroll h.tree))) (slot (plane F a h.nested l) q) (p_fork []))
       back q m =
           let x = in_plane in
           let z : 0 + q ≡ q = omega arith in
-          let y : Back T (4 * (P * F)) (slot (plane F a) (0 + q)) (length T) (get_or (plane_places (plane F a) h.tree P) q (p_fork [])) =
-          places-back (plane F a) x.from T (4 * (P * F)) 0 x.at (length T) (plane_places (plane F a) h.tree P) (record { few = h.nested; flag = l }) x.low
-          (λ i b. (let n = slot-in F a i P (omega (arith, count)) l in omega (arith, x.low))) (omega (arith, x.high, x.long, f.high, h.long, f.len))
+          let y : Back T (4 * (P * F)) (slot (plane F a h.nested l) (0 + q)) (length T) (get_or (plane_places (plane F a h.nested l) h.tree P) q (p_fork [])) =
+          places-back (plane F a h.nested l) x.from T (4 * (P * F)) 0 x.at (length T) (plane_places (plane F a h.nested l) h.tree P) x.low
+          (λ i b. (let n = slot-in F a i P h.nested l (omega (arith, count)) in omega (arith, x.low))) (omega (arith, x.high, x.long, f.high, h.long, f.len))
           (omega (arith, x.high, f.high, h.long, f.len)) sound (λ i j b c u v. x.slots i j (omega (arith, count)) u v) x.ways q (omega (arith, count)) in
           rw (← entry q m) (rw z at y)
 

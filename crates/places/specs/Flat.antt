@@ -3,7 +3,7 @@ use Rattle.std.specs.Prelude.{◌≡◌, List, [], ◌∷◌, ◌++◌, ℕ, ◌
 use Rattle.rules.specs.Language.{Tree, pattern}
 use Rattle.rules.specs.Places.{Place, p_end, places_of}
 use Rattle.trees.specs.Held.{Top}
-use Rattle.place_codes.specs.Planes.{Planed, slot, state_by}
+use Rattle.place_codes.specs.Planes.{slot, state_by}
 use Rattle.place_codes.specs.declared.Plane.{Plane}
 use Rattle.forks.specs.Emitting.{tree_places}
 
@@ -17,7 +17,6 @@ pub record Flat (o : Plane) (s : List ℕ) (top P : ℕ) (T : List ℕ) (w : ℕ
   pub is : Top tree top s
   pub count : P ≡ places_of tree
   pub few : P ≤ 256
-  pub planed : Planed o
   pub long : (q : ℕ) → q < P → 4 * slot o q + 4 ≤ length T
   pub small : length T < 65536
   pub way : w + 3 * P ≤ length T

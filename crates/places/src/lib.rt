@@ -9,7 +9,7 @@ ghost use Rattle.forks.specs.Emitting.{Unrolling, PlacesTabled};
 ghost use Rattle.places.specs.Flat.{Flat, plane_places};
 ghost use Rattle.std.specs.Prelude.{◌*◌};
 
-use place_codes::{Behind, Plane};
+use place_codes::Plane;
 use place_words::put_place;
 use table::{END, WORDS};
 use unrolling::emit;
@@ -27,16 +27,9 @@ fn unroll_plane(
     requires { Flat o room.now top places table.old w }
     ensures { (h : Flat o room.now top places table.old w) → Emitted o table.old table.new 0 w result (plane_places o h.tree places) }
 {
-    let last = places - 1;
-    let here = o.slot(last);
-    let set = last * o.factor;
-    let k = Behind {
-        values: 1,
-        here,
-        set,
-    };
-    let to = emit(room, top, table, o, 0, w, k);
-    put_place(table, here, to, END, 0)
+    let end = o.state(1, places - 1);
+    let to = emit(room, top, table, o, 0, w, end);
+    put_place(table, end.here, to, END, 0)
 }
 
 // Unrolls the tree whose top is a node: the entries of its P places, END the last, with so many

@@ -67,17 +67,17 @@ module _ (o : Plane) where
       ∙ ap (λ (v : Behind). used o K (p_fork (distinct (ways_in_turn z v.here K.here))) ∷ thinned (plane_of o t (suc B) K)) s
       ∙ ap (λ (v : ℕ). used o K (p_fork (distinct (ways_in_turn z k0.here K.here))) ∷ thinned (plane_of o t v K)) b1
 
-  star-part : (z : Bool) (t : Unrolled) (B : ℕ) (K : Behind) (e : ℕ) (R k0 : Behind) → e ≡ B + size (u_star z t) → R ≡ round_by o (flags_copy o t) B K → k0 ≡ start_by o (B + 1) e R
+  star-part : (z : Bool) (t : Unrolled) (B : ℕ) (K : Behind) (e : ℕ) (R k0 : Behind) → e ≡ B + size (u_star z t) → R ≡ round_by o (flags_copy o.factor t) B K → k0 ≡ start_by o (B + 1) e R
       → thinned (plane_of o (u_star z t) B K) ≡ choice_places o z k0.here K ++ thinned (plane_of o t (B + 1) R)
   unfolding plane_of size thinned
   star-part z t B K e R k0 ee er e0 =
       let b1 : suc B ≡ B + 1 = omega arith in
       let e2 : B + 1 + size t ≡ e = omega arith in
-      let s : start_by o (suc B) (suc B + size t) (round_by o (flags_copy o t) B K) ≡ k0 =
+      let s : start_by o (suc B) (suc B + size t) (round_by o (flags_copy o.factor t) B K) ≡ k0 =
       ap (λ (v : Behind). start_by o (suc B) (suc B + size t) v) (sym er) ∙ ap (λ (v : ℕ). start_by o v (v + size t) R) b1 ∙ ap (λ (v : ℕ). start_by o (B + 1) v R) e2 ∙ sym e0 in
-      ap (λ (v : Place). v ∷ thinned (plane_of o t (suc B) (round_by o (flags_copy o t) B K)))
-      (thin-used o K (ways_in_turn z (start_by o (suc B) (suc B + size t) (round_by o (flags_copy o t) B K)).here K.here))
-      ∙ ap (λ (v : Behind). used o K (p_fork (distinct (ways_in_turn z v.here K.here))) ∷ thinned (plane_of o t (suc B) (round_by o (flags_copy o t) B K))) s
+      ap (λ (v : Place). v ∷ thinned (plane_of o t (suc B) (round_by o (flags_copy o.factor t) B K)))
+      (thin-used o K (ways_in_turn z (start_by o (suc B) (suc B + size t) (round_by o (flags_copy o.factor t) B K)).here K.here))
+      ∙ ap (λ (v : Behind). used o K (p_fork (distinct (ways_in_turn z v.here K.here))) ∷ thinned (plane_of o t (suc B) (round_by o (flags_copy o.factor t) B K))) s
       ∙ ap (λ (v : Behind). used o K (p_fork (distinct (ways_in_turn z k0.here K.here))) ∷ thinned (plane_of o t (suc B) v)) (sym er)
       ∙ ap (λ (v : ℕ). used o K (p_fork (distinct (ways_in_turn z k0.here K.here))) ∷ thinned (plane_of o t v R)) b1
 
@@ -98,7 +98,7 @@ unfolding size
 opt-size z t = refl
 
 module _ (o : Plane) where
-  star-code : (z : Bool) (t : Unrolled) (B : ℕ) (K : Behind) (e : ℕ) (R k0 : Behind) → e ≡ B + size (turns 0 None z t) → R ≡ round_by o (flags_copy o t) B K → k0 ≡ start_by o (B + 1) e R
+  star-code : (z : Bool) (t : Unrolled) (B : ℕ) (K : Behind) (e : ℕ) (R k0 : Behind) → e ≡ B + size (turns 0 None z t) → R ≡ round_by o (flags_copy o.factor t) B K → k0 ≡ start_by o (B + 1) e R
       → thinned (plane_of o (turns 0 None z t) B K) ≡ choice_places o z k0.here K ++ thinned (plane_of o t (B + 1) R)
   star-code z t B K e R k0 ee er e0 =
       ap (λ (x : Unrolled). thinned (plane_of o x B K)) (turns-star z t) ∙ star-part o z t B K e R k0 (ee ∙ ap (λ (x : Unrolled). B + size x) (turns-star z t)) er e0
@@ -138,7 +138,7 @@ mutual
       ∙ omega (arith, plane-length o x b (start_by o (b + size x) (b + size x + size y) k), plane-length o y (b + size x) k)
   plane-length o (u_alt ts) b k = ap suc (planes_length o ts (suc b) k)
   plane-length o (u_opt lazy t) b k = ap suc (plane-length o t (suc b) k)
-  plane-length o (u_star lazy t) b k = ap suc (plane-length o t (suc b) (round_by o (flags_copy o t) b k))
+  plane-length o (u_star lazy t) b k = ap suc (plane-length o t (suc b) (round_by o (flags_copy o.factor t) b k))
 
   planes_length : (o : Plane) (ts : Branches) (b : ℕ) (k : Behind) → length (planes_of o ts b k) ≡ sizes ts
   planes_length o u_nil b k = refl
@@ -237,6 +237,6 @@ module _ (o : Plane) (F : Tree factor) (c B : ℕ) (K : Behind) (e : ℕ) (ec : 
       → turn_places o 0 (Some (suc m)) F B K ≡ choice_places o (lazy_of F) k0.here K ++ (body_places o F (B + 1) k ++ turn_places o 0 (Some m) F (B + 1 + c) K)
   turn_option m k0 k ee e0 ek = option_code o (lazy_of F) (unrolled (body F)) m B K c e k0 k ec ee e0 ek
 
-  pub turn_star : (R k0 : Behind) → e ≡ B + size (turns 0 None (lazy_of F) (unrolled (body F))) → R ≡ round_by o (flags_copy o (unrolled (body F))) B K → k0 ≡ start_by o (B + 1) e R
+  pub turn_star : (R k0 : Behind) → e ≡ B + size (turns 0 None (lazy_of F) (unrolled (body F))) → R ≡ round_by o (flags_copy o.factor (unrolled (body F))) B K → k0 ≡ start_by o (B + 1) e R
       → turn_places o 0 None F B K ≡ choice_places o (lazy_of F) k0.here K ++ body_places o F (B + 1) R
   turn_star R k0 ee er e0 = star-code o (lazy_of F) (unrolled (body F)) B K e R k0 ee er e0

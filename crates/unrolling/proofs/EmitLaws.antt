@@ -25,7 +25,7 @@ use Rattle.trees.specs.Held.{body, lower_of, highest_of, lazy_of, Top, At}
 use Rattle.trees.proofs.ByNode.{IsAnchor, FactorAt, GroupAt, as_any, as_seq, as_alt, as_letter, as_anchor, as_empty, as_group, at_in, seq-left, seq-right, alt_left, alt_right, group-left, top_places}
 use Rattle.place_words.specs.Words.{put_words, put_single, put_place, way_count, Fitting, Emitted, Single, place_words}
 use Rattle.place_codes.specs.Codes.{letter_code, anchor_code, turns_behind}
-use Rattle.place_codes.specs.Planes.{Planed, Low, slot, start_by, round_by}
+use Rattle.place_codes.specs.Planes.{Low, slot, start_by, round_by}
 use Rattle.place_codes.specs.declared.Plane.{Plane}
 use Rattle.place_codes.specs.declared.Behind.{Behind}
 use Rattle.place_codes.proofs.CodeLaws.{start-low, round_low}
@@ -154,8 +154,8 @@ module _ (o : Plane) (s : List ℕ) (i : ℕ) (n : Node) (en : n ≡ node_at s i
     pub seq-mid : Emitting o s i T b w k → Fits-in w64 (b + m)
     seq-mid h = let x = seq-parts _ refl h.tree h.top h.fits in record { fits = omega (arith, x.low) }
 
-    pub seq_start : Emitting o s i T b w k → Planed o × (b + m ≤ 256) × Low k
-    seq_start h = let x = seq-parts _ refl h.tree h.top h.fits in (h.fits.planed, x.low, h.fits.behind)
+    pub seq_start : Emitting o s i T b w k → (b + m ≤ 256) × Low k
+    seq_start h = let x = seq-parts _ refl h.tree h.top h.fits in (x.low, h.fits.behind)
 
     module _ (nx : Behind) (ex : nx ≡ start_by o (b + m) (b + n.places) k) (h : Emitting o s i T b w k) where
       seq : SeqParts nx h.tree
@@ -168,7 +168,7 @@ module _ (o : Plane) (s : List ℕ) (i : ℕ) (n : Node) (en : n ≡ node_at s i
             top = seq.left_top;
             fits = part_left o T b w k (tree_places o h.tree b k) (tree_places o (one (last seq.first)) b nx) (λ v. tree_places o (one seq.rest) v k)
                 (b + m) seq.split seq.long
-                nx (rw ex (start-low o (b + m) (b + n.places) k h.fits.planed seq.low h.fits.behind)) h.fits;
+                nx (rw ex (start-low o (b + m) (b + n.places) k seq.low h.fits.behind)) h.fits;
           }
 
       pub seq-first : (u : ℕ) → emit_m s i ≡ u → (emit_m s n.left < u) × Emitting o s n.left T b w nx
@@ -275,7 +275,7 @@ module _ (o : Plane) (s : List ℕ) (i : ℕ) (n : Node) (en : n ≡ node_at s i
     pub turn_order : Emitting o s i T b w k → n.low ≤ n.high
     turn_order h = let F = factor-of h.tree h.top in F.seen.order.in_order
 
-    module _ (c : ℕ) (hc : BodySize s i c) (empty : Bool) (he : BodyFlag o s i empty) (m : Option ℕ) (em : m ≡ turns_behind n.low n.high) (h : Emitting o s i T b w k) where
+    module _ (c : ℕ) (hc : BodySize s i c) (empty : Bool) (he : BodyFlag o.factor s i empty) (m : Option ℕ) (em : m ≡ turns_behind n.low n.high) (h : Emitting o s i T b w k) where
       F : FactorOf h.tree
       F = factor-of h.tree h.top
 
@@ -458,7 +458,7 @@ module _ (o : Plane) (s : List ℕ) (i c : ℕ) (lazy empty : Bool) (n : ℕ) (m
             top = h.top;
             fits = part_left o T b w k (turn_places o n m h.of b k) (body_places o h.of b nx) (λ v. turn_places o n2 m h.of v k) (b + c) copy-split
                 copy-long
-                nx (rw ex (start-low o (b + c) end k h.fits.planed copy-low h.fits.behind)) h.fits;
+                nx (rw ex (start-low o (b + c) end k copy-low h.fits.behind)) h.fits;
           }
 
       pub copy-first : (u : ℕ) → round_m s i ≡ u → (body_m s i < u) × Bodying o s i T b w nx
@@ -498,8 +498,8 @@ module _ (o : Plane) (s : List ℕ) (i c : ℕ) (lazy empty : Bool) (n : ℕ) (m
     pub copy-fits : Turning o s i c lazy empty n m end T b w k → Fits-in w64 (b + c)
     copy-fits h = record { fits = omega (arith, copy-low _ refl h) }
 
-    pub copy_start : Turning o s i c lazy empty n m end T b w k → Planed o × (b + c ≤ 256) × Low k
-    copy_start h = (h.fits.planed, copy-low _ refl h, h.fits.behind)
+    pub copy_start : Turning o s i c lazy empty n m end T b w k → (b + c ≤ 256) × Low k
+    copy_start h = (copy-low _ refl h, h.fits.behind)
 
   -- nothing is left
   pub none_done : n ≤ 0 → m ≡ Some 0 → (h : Turning o s i c lazy empty n m end T b w k) → Emitted o T T b w w (turn_places o n m h.of b k)
@@ -545,7 +545,7 @@ module _ (o : Plane) (s : List ℕ) (i c : ℕ) (lazy empty : Bool) (n : ℕ) (m
         ∙ ap (λ (v : Option ℕ). b + size (turns 0 v (lazy_of h.of) (unrolled (body h.of)))) e
 
     module _ (R : Behind) (er : R ≡ round_by o empty b k) (cp : Behind) (ec : cp ≡ start_by o (b + 1) end R) (h : Turning o s i c lazy empty n m end T b w k) where
-      round_is : R ≡ round_by o (flags_copy o (unrolled (body h.of))) b k
+      round_is : R ≡ round_by o (flags_copy o.factor (unrolled (body h.of))) b k
       round_is = er ∙ ap (λ (t : Bool). round_by o t b k) h.flags
 
       star-split : turn_places o n m h.of b k ≡ choice_places o (lazy_of h.of) cp.here k ++ body_places o h.of (b + 1) R
@@ -555,10 +555,10 @@ module _ (o : Plane) (s : List ℕ) (i c : ℕ) (lazy empty : Bool) (n : ℕ) (m
       star-low = omega (arith, fork-low (lazy_of h.of) cp.here (body_places o h.of (b + 1) R) (subst (Fitting o T b w k) star-split h.fits))
 
       round_fits : Low R
-      round_fits = rw er (round_low o empty b k h.fits.planed (omega (arith, star-low)) h.fits.behind)
+      round_fits = rw er (round_low o empty b k (omega (arith, star-low)) h.fits.behind)
 
       copy-small : Low cp
-      copy-small = rw ec (start-low o (b + 1) end R h.fits.planed star-low round_fits)
+      copy-small = rw ec (start-low o (b + 1) end R star-low round_fits)
 
       pub star-choose : Parting o T b w lazy cp.here k
       star-choose =
@@ -573,7 +573,7 @@ module _ (o : Plane) (s : List ℕ) (i c : ℕ) (lazy empty : Bool) (n : ℕ) (m
             record {
               of = h.of;
               top = h.top;
-              fits = record { planed = f.planed; long = f.long; small = f.small; place = f.place; way = f.way; behind = round_fits };
+              fits = record { long = f.long; small = f.small; place = f.place; way = f.way; behind = round_fits };
             }
 
         pub star-body : (u : ℕ) → round_m s i ≡ u → (body_m s i < u) × Bodying o s i T1 (b + 1) r R
@@ -588,11 +588,11 @@ module _ (o : Plane) (s : List ℕ) (i c : ℕ) (lazy empty : Bool) (n : ℕ) (m
             T2 r q d (g star-bodying)
 
     -- what the end of a round and the start of its copy ask
-    pub star-round : Turning o s i c lazy empty n m end T b w k → Planed o × (b ≤ 256) × Low k
-    star-round h = (h.fits.planed, omega (arith, h.fits.place), h.fits.behind)
+    pub star-round : Turning o s i c lazy empty n m end T b w k → (b ≤ 256) × Low k
+    star-round h = (omega (arith, h.fits.place), h.fits.behind)
 
-    pub star-start : (R : Behind) → R ≡ round_by o empty b k → Turning o s i c lazy empty n m end T b w k → Planed o × (b + 1 ≤ 256) × Low R
-    star-start R er h = (h.fits.planed, star-low R er (start_by o (b + 1) end R) refl h, round_fits R er (start_by o (b + 1) end R) refl h)
+    pub star-start : (R : Behind) → R ≡ round_by o empty b k → Turning o s i c lazy empty n m end T b w k → (b + 1 ≤ 256) × Low R
+    star-start R er h = (star-low R er (start_by o (b + 1) end R) refl h, round_fits R er (start_by o (b + 1) end R) refl h)
 
   -- a fork and a copy, and then fewer
   module _ (l : n ≤ 0) (m2 : ℕ) (em : m ≡ Some (suc m2)) where
@@ -630,7 +630,7 @@ module _ (o : Plane) (s : List ℕ) (i c : ℕ) (lazy empty : Bool) (n : ℕ) (m
           omega (arith, f, length-append (body_places o h.of (b + 1) nx) (turn_places o 0 (Some m2) h.of (b + 1 + c) k), body-places h (b + 1) nx)
 
       copy-low_entry : Low cp
-      copy-low_entry = rw ec (start-low o (b + 1) end k h.fits.planed (omega (arith, option_low)) h.fits.behind)
+      copy-low_entry = rw ec (start-low o (b + 1) end k (omega (arith, option_low)) h.fits.behind)
 
       pub option_choose : Parting o T b w lazy cp.here k
       option_choose =
@@ -654,7 +654,7 @@ module _ (o : Plane) (s : List ℕ) (i c : ℕ) (lazy empty : Bool) (n : ℕ) (m
                 of = h.of;
                 top = h.top;
                 fits = fit-left o T1 (b + 1) r k (body_places o h.of (b + 1) nx) (turn_places o 0 (Some m2) h.of (b + 1 + c) k) nx
-                    (rw ex (start-low o (b + 1 + c) end k h.fits.planed option_low h.fits.behind)) inside-fits;
+                    (rw ex (start-low o (b + 1 + c) end k option_low h.fits.behind)) inside-fits;
               }
 
           pub option_body : (u : ℕ) → round_m s i ≡ u → (body_m s i < u) × Bodying o s i T1 (b + 1) r nx
@@ -695,11 +695,11 @@ module _ (o : Plane) (s : List ℕ) (i c : ℕ) (lazy empty : Bool) (n : ℕ) (m
     option_more h = record { fits = omega (arith, option_low _ refl h) }
 
     -- what the starts of the copy and of the rest ask
-    pub option_start : Turning o s i c lazy empty n m end T b w k → Planed o × (b + 1 ≤ 256) × Low k
-    option_start h = (h.fits.planed, omega (arith, option_low _ refl h), h.fits.behind)
+    pub option_start : Turning o s i c lazy empty n m end T b w k → (b + 1 ≤ 256) × Low k
+    option_start h = (omega (arith, option_low _ refl h), h.fits.behind)
 
-    pub option_rest : Turning o s i c lazy empty n m end T b w k → Planed o × (b + 1 + c ≤ 256) × Low k
-    option_rest h = (h.fits.planed, option_low _ refl h, h.fits.behind)
+    pub option_rest : Turning o s i c lazy empty n m end T b w k → (b + 1 + c ≤ 256) × Low k
+    option_rest h = (option_low _ refl h, h.fits.behind)
 
 -- ---- body
 
@@ -729,7 +729,6 @@ module _ (o : Plane) (s : List ℕ) (i : ℕ) (n : Node) (en : n ≡ node_at s i
   one-fits : (p : Place) → Fitting o T b w k (p ∷ []) → (v x : ℕ) → v < 65536 → x < 4096 → Single T o b v x
   one-fits p f v x l m =
       record {
-        planed = f.planed;
         place = omega (arith, f.place);
         long = f.long b (omega arith);
         code_fits = l;

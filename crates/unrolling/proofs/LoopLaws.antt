@@ -15,7 +15,7 @@ use Rattle.nodes.specs.declared.Sort.TheVariants.{Sequence, Alternation}
 use Rattle.nodes.specs.declared.Node.{Node}
 use Rattle.trees.specs.Held.{At}
 use Rattle.place_codes.specs.Codes.{turns_behind}
-use Rattle.place_codes.specs.Planes.{Planed, Low, start_by, round_by}
+use Rattle.place_codes.specs.Planes.{Low, start_by, round_by}
 use Rattle.place_codes.specs.declared.Plane.{Plane}
 use Rattle.place_codes.specs.declared.Behind.{Behind}
 use Rattle.place_words.specs.Words.{Emitted}
@@ -72,7 +72,7 @@ module _ (o : Plane) (s : List ℕ) (i : ℕ) (T0 : List ℕ) (b0 w0 : ℕ) (k :
       pub left-order : n.low ≤ n.high
       left-order = turn_order o s j n en T b w k ns na L.now
 
-      module _ (c : ℕ) (hc : BodySize s j c) (empty : Bool) (he : BodyFlag o s j empty) (m : Option ℕ) (em : m ≡ turns_behind n.low n.high) where
+      module _ (c : ℕ) (hc : BodySize s j c) (empty : Bool) (he : BodyFlag o.factor s j empty) (m : Option ℕ) (em : m ≡ turns_behind n.low n.high) where
         pub left-turning : Turning o s j c n.lazy empty n.low m (b + n.places) T b w k
         left-turning = (turn_first o s j n en T b w k ns na c hc empty he m em L.now _ refl).1
 
@@ -93,7 +93,7 @@ module _ (o : Plane) (s : List ℕ) (i : ℕ) (T0 : List ℕ) (b0 w0 : ℕ) (k :
         pub left-mid : Fits-in w64 (b + m)
         left-mid = seq-mid o s j n en T b w k e m em L.now
 
-        pub left-start : Planed o × (b + m ≤ 256) × Low k
+        pub left-start : (b + m ≤ 256) × Low k
         left-start = seq_start o s j n en T b w k e m em L.now
 
         module _ (nx : Behind) (ex : nx ≡ start_by o (b + m) (b + n.places) k) where
@@ -202,7 +202,7 @@ module _ (o : Plane) (s : List ℕ) (i c : ℕ) (lazy empty : Bool) (n0 : ℕ) (
     pub rounds_copy_fits : Fits-in w64 (b + c)
     rounds_copy_fits = copy-fits o s i c lazy empty n m end T b w k n2 en L.now
 
-    pub rounds_copy_start : Planed o × (b + c ≤ 256) × Low k
+    pub rounds_copy_start : (b + c ≤ 256) × Low k
     rounds_copy_start = copy_start o s i c lazy empty n m end T b w k n2 en L.now
 
     module _ (nx : Behind) (ex : nx ≡ start_by o (b + c) end k) where
@@ -232,11 +232,11 @@ module _ (o : Plane) (s : List ℕ) (i c : ℕ) (lazy empty : Bool) (n0 : ℕ) (
 
     -- a fork and a copy that leads back to it
     module _ (e : m ≡ None) where
-      pub rounds_round : Planed o × (b ≤ 256) × Low k
+      pub rounds_round : (b ≤ 256) × Low k
       rounds_round = star-round o s i c lazy empty n m end T b w k l e L.now
 
       module _ (R : Behind) (er : R ≡ round_by o empty b k) where
-        pub rounds_star_start : Planed o × (b + 1 ≤ 256) × Low R
+        pub rounds_star_start : (b + 1 ≤ 256) × Low R
         rounds_star_start = star-start o s i c lazy empty n m end T b w k l e R er L.now
 
         module _ (cp : Behind) (ec : cp ≡ start_by o (b + 1) end R) where
@@ -256,10 +256,10 @@ module _ (o : Plane) (s : List ℕ) (i c : ℕ) (lazy empty : Bool) (n0 : ℕ) (
       pub rounds_option_fits : Fits-in w64 (b + 1 + c)
       rounds_option_fits = option_more o s i c lazy empty n m end T b w k l m2 em L.now
 
-      pub rounds_option_start : Planed o × (b + 1 ≤ 256) × Low k
+      pub rounds_option_start : (b + 1 ≤ 256) × Low k
       rounds_option_start = option_start o s i c lazy empty n m end T b w k l m2 em L.now
 
-      pub rounds_option_rest : Planed o × (b + 1 + c ≤ 256) × Low k
+      pub rounds_option_rest : (b + 1 + c ≤ 256) × Low k
       rounds_option_rest = option_rest o s i c lazy empty n m end T b w k l m2 em L.now
 
       module _ (cp : Behind) (ec : cp ≡ start_by o (b + 1) end k) where

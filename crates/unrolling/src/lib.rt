@@ -64,7 +64,7 @@ pub fn emit(
                 node,
                 body: body_size(room, node),
                 lazy: n.lazy,
-                empty: copy_has_flag(room, node, o),
+                empty: copy_has_flag(room, node, o.factor),
                 copies: n.low,
                 turns: turns_behind(n.low, n.high),
                 end,
