@@ -1,8 +1,8 @@
 // A query's parts decoded once, in one pass over its records: for each letter where its DEFINE
 // stands in the query, the measures, a few numbers, and whether a letter has two DEFINEs (answer
-// 8). Comparisons and entries stay where they are, in the query's bytes, so a search reads the lent array of
-// indices and then the query itself. specs/Layout says what the arrays hold afterwards (`Decoded`).
-// A query comes here with no answer 1 to 3.
+// 8). Comparisons and entries stay where they are, in the query's bytes, so a search reads the lent
+// array of indices and then the query itself. specs/Layout says what the arrays hold afterwards
+// (`Decoded`). A query comes here with no answer 1 to 3.
 #![tactic(auto)]
 
 ghost use Rattle.std.specs.Prelude.{◌≡◌};

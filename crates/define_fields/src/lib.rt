@@ -1,6 +1,6 @@
-// The rules for the fields of DEFINEs (document 01, "Rows and query records", and R-7), which answer
-// 3 is about: the comparisons of kind 3, and the entries of kind 6 in postfix. Every function equals
-// the definition of its name.
+// The rules for the fields of DEFINEs (document 01, "Rows and query records", and R-7), which
+// answer 3 is about: the comparisons of kind 3, and the entries of kind 6 in postfix. Every
+// function equals the definition of its name.
 #![tactic(auto)]
 
 ghost use Rattle.std.specs.Prelude.{◌≡◌, ◌+◌, ◌*◌, ◌≤◌, ◌<◌, length, get_or};
@@ -45,8 +45,8 @@ fn entry_fits(s: &[u8], columns: usize, at: usize, tag: usize) -> bool
     }
 }
 
-// The entries of a DEFINE of kind 6, from p on: `count` of them fit and end where the body ends, and
-// of the results one is left.
+// The entries of a DEFINE of kind 6, from p on: `count` of them fit and end where the body ends,
+// and of the results one is left.
 fn entries_fit(s: &[u8], columns: usize, p: usize, count: usize, end: usize) -> bool
     requires { (p ≤ end) × (end ≤ length s.now) × (count < 256) }
     ensures { result ≡ entries_good s.now columns end count 0 p }

@@ -1,6 +1,7 @@
 // Where the DEFINE of each letter stands in the query, in one pass over the DEFINEs, and whether a
 // letter has two (answer 8). Comparisons and entries stay where they are, in the query's bytes. A
-// query comes here with no answer 1 to 3. What the lent array holds afterwards: specs/Defines, `PutDefines`.
+// query comes here with no answer 1 to 3. What the lent array holds afterwards: specs/Defines,
+// `PutDefines`.
 #![tactic(auto)]
 
 ghost use Rattle.define_list.specs.Defines.{DefineRoom, PutDefine, DefinesRoom, PutDefines};

@@ -7,10 +7,18 @@ ghost use Rattle.rules.specs.Basics.{pick, is_letter};
 ghost use Rattle.rules.specs.Query.{offset_fits, left_fits, right_fits, function_fits};
 
 // The first byte of an entry of kind 6 is 0 where a comparison stands behind it, or 1, 2 or 3 for
-// AND, OR or NOT.
+// AND, OR or NOT. No enum: any byte may stand there, and what is said below is said of each.
 pub const COMPARISON: usize = 0;
 
 pub const NOT: usize = 3;
+
+// The right side of a comparison is a number, which stands behind it, or a column of a row.
+const NUMBER: usize = 0;
+
+const COLUMN: usize = 1;
+
+// The function that counts rows, and so has no column of its own.
+const COUNT: usize = 1;
 
 // Whether a byte is a letter, A to Z.
 #[tactic(auto, unfolding(rules::specs::Basics::is_letter, rules::specs::Basics::in_range))]
@@ -36,8 +44,8 @@ pub fn right_fits(columns: usize, kind: usize, column: usize, offset: usize) -> 
     ensures { result ≡ right_fits columns kind column offset }
 {
     match kind {
-        0 => column == 0 && offset == 0,
-        1 => column < columns && offset_fits(offset),
+        NUMBER => column == 0 && offset == 0,
+        COLUMN => column < columns && offset_fits(offset),
         _ => false,
     }
 }
@@ -51,7 +59,7 @@ pub fn left_fits(columns: usize, column: usize, offset: usize, operator: usize) 
     column < columns && offset_fits(offset) && (1..=6).contains(&operator)
 }
 
-// A measure's function, letter and column; COUNT, function 1, has column 0.
+// A measure's function, letter and column; COUNT has column 0.
 #[tactic(auto, unfolding(rules::specs::Query::function_fits, rules::specs::Basics::in_range))]
 pub fn function_fits(columns: usize, function: usize, letter: usize, column: usize) -> bool
     ensures { result ≡ function_fits columns function letter column }
@@ -59,7 +67,7 @@ pub fn function_fits(columns: usize, function: usize, letter: usize, column: usi
     (1..=7).contains(&function)
         && (letter == 0 || is_letter(letter))
         && column < columns
-        && (function != 1 || column == 0)
+        && (function != COUNT || column == 0)
 }
 
 // How many bytes an entry of kind 6 takes, by its first byte.

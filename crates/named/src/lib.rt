@@ -35,6 +35,7 @@ pub fn is_three(query: &[u8], depot: usize, month: usize) -> bool
 }
 
 // How many measures a query has. A record takes 4 bytes at least.
+#[tactic(auto, using(records::proofs::Reading::fewer, crate::proofs::Shapes::counting_none))]
 pub fn measure_count(query: &[u8]) -> usize
     ensures { (result ≡ length (parts query.now).measures) × (4 * result ≤ length query.now) }
 {

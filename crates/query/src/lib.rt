@@ -1,6 +1,6 @@
-// A query's bytes judged: answers 1, 2 and 3 in one pass over the records. The promises are equations
-// with document 01's tests over the whole query, for all byte strings; records are read by the crate
-// records, and the rules for their fields stand in the crate fields.
+// A query's bytes judged: answers 1, 2 and 3 in one pass over the records. The promises are
+// equations with document 01's tests over the whole query, for all byte strings; records are read
+// by the crate records, and the rules for their fields stand in the crate fields.
 #![tactic(auto)]
 
 ghost use Rattle.std.specs.Prelude.{◌≡◌, ◌+◌, get_or, eqb};

@@ -1,20 +1,10 @@
 -- `named::measure_count` meets its contract by the laws of Shapes.
 use Rattle.std.proofs.Common.{rules, sym}
-use Rattle.records.proofs.Reading.{fewer}
-use Rattle.named.proofs.Shapes.{counting_none, counting_more, counting_other, counting_cut, counting_all}
+use Rattle.named.proofs.Shapes.{counting_more, counting_other, counting_cut, counting_all}
 use Rattle.named.proofs.measure_count.Goals as goal
-
-pub loop-at-init : goal.loop-at-init
-loop-at-init c = counting_none _
-
-pub loop-at-smaller-then-is_measure : goal.loop-at-smaller-then-is_measure
-loop-at-smaller-then-is_measure c = search (rules, fewer)
 
 pub loop-at-preserved-then-is_measure : goal.loop-at-preserved-then-is_measure
 loop-at-preserved-then-is_measure c = counting_more _ _ _ c.loop-at.invariant _ c.in-Record.ensures (sym c.if-is_measure.ensures)
-
-pub loop-at-smaller : goal.loop-at-smaller
-loop-at-smaller c = search (rules, fewer)
 
 pub loop-at-preserved : goal.loop-at-preserved
 loop-at-preserved c = counting_other _ _ _ c.loop-at.invariant _ c.in-Record.ensures (sym c.if-is_measure.ensures)
