@@ -4,21 +4,21 @@
 use mathlib.Core.Path.{◌≡◌, refl, sym, ap, ◌∙◌}
 use mathlib.Core.Bool.{Bool, true, false, ◌&&◌, ◌||◌}
 use mathlib.Core.List.{List}
-use mathlib.Core.Logic.{inl, inr}
-use Prim.Native.Nat.{ℕ, suc, ◌+◌, ◌*◌, ◌-◌, ◌≤◌, ◌<◌, ◌^◌, min, max}
+use mathlib.Core.Logic.{◌⊎◌, inl, inr}
+use Prim.Native.Nat.{ℕ, zero, suc, ◌+◌, ◌*◌, ◌≤◌, ◌<◌, ◌^◌, ◌%◌, min, max}
 use native.Mathlib.Omega.{arith}
 use lib.Dec.{eqb}
 use lib.ListN.{length}
 use borrow.Author.Tests.{eq-eqb, ne_eqb}
 use Rattle.rules.specs.Basics.{pick}
-use Rattle.rules.specs.Language.{pattern, factor, primary, Tree, one, more, last, bare, times, letter, caret, dollar, empty, group, nullable, loop_nesting, deeper}
+use Rattle.rules.specs.Language.{pattern, factor, primary, Tree, one, last, bare, times, letter, caret, dollar, empty, group, nullable, loop_nesting, deeper}
 use Rattle.nodes.specs.Nodes.{node_at}
 use Rattle.nodes.specs.declared.Sort.{Sort}
 use Rattle.nodes.specs.declared.Sort.TheVariants.{Letter, Anchor, Empty, Sequence, Alternation, Group}
 use Rattle.nodes.specs.declared.Node.{Node}
 use Rattle.trees.specs.Held.{body, Top, At}
 use Rattle.trees.proofs.RoundLaws.{bound-eq}
-use Rattle.trees.proofs.ByNode.{IsAnchor, FactorAt, GroupAt, as_any, as_seq, as_alt, as_letter, as_anchor, as_empty, as_group, at_in, seq-left, seq-right, alt_left, alt_right, group-left}
+use Rattle.trees.proofs.ByNode.{IsAnchor, FactorAt, as_any, as_seq, as_alt, as_letter, as_anchor, as_empty, as_group, at_in, seq-left, seq-right, alt_left, alt_right, group-left}
 use Rattle.loops.specs.Loops.{Nullable, Nesting}
 
 clash : {A : Type 0} → ◌≡◌ {A = ℕ} 0 1 → A
@@ -90,7 +90,7 @@ module _ (s : List ℕ) (i j : ℕ) (L : Left (Nullable s) s i j) (n : Node) (en
     unfolding nullable
     null_letter a e = L.so false (as_letter s j n en (λ p. false ≡ nullable p) a e (λ F q z. sym (null_body F q (letter a) z)))
 
-    pub null_anchor : (a : ℕ) → n.sort ≡ Anchor a → Nullable s i true
+    null_anchor : (a : ℕ) → n.sort ≡ Anchor a → Nullable s i true
     unfolding nullable
     null_anchor a e = L.so true (as_anchor s j n en (λ p. true ≡ nullable p) a e go)
       where
@@ -98,9 +98,13 @@ module _ (s : List ℕ) (i j : ℕ) (L : Left (Nullable s) s i j) (n : Node) (en
         go F q (inl z) = sym (null_body F q caret z.0)
         go F q (inr z) = sym (null_body F q dollar z.0)
 
-    pub null_empty : n.sort ≡ Empty → Nullable s i true
+    null_empty : n.sort ≡ Empty → Nullable s i true
     unfolding nullable
     null_empty e = L.so true (as_empty s j n en (λ p. true ≡ nullable p) e (λ F q z. sym (null_body F q empty z)))
+
+    pub null_still : ((a : ℕ) × (n.sort ≡ Anchor a)) ⊎ (n.sort ≡ Empty) → Nullable s i true
+    null_still (inl (a, e)) = null_anchor a e
+    null_still (inr e) = null_empty e
 
     pub null_group : n.sort ≡ Group → Left (Nullable s) s i n.left
     unfolding nullable
@@ -177,22 +181,20 @@ no-max : (a r : ℕ) → r ≡ min (max 0 (a + 1)) 4 → r ≡ min (a + 1) 4
 no-max a r e = omega arith
 
 module _ (s : List ℕ) (i j around most : ℕ) (L : Deep s i j around most) where
-  pub deep-inside : 8 * j + 8 ≤ length s
-  deep-inside = at_in s j L.here
-
-  pub few_around : around ≤ 4
-  few_around = L.few.0
-
   module _ (n : Node) (en : n ≡ node_at s j) where
     nest-body : (F : Tree factor) → FactorAt s n F → (x : Tree primary) → body F ≡ x → loop_nesting F ≡ deeper (eqb n.high 100 && nullable x) (loop_nesting x)
     nest-body F q x z = nest-factor s n F q ∙ ap (λ (y : Tree primary). deeper (eqb n.high 100 && nullable y) (loop_nesting y)) z
 
     -- the loop's measure falls
-    pub deep-seq_down : n.sort ≡ Sequence → (node_at s n.right).height < (node_at s j).height
+    deep-seq_down : n.sort ≡ Sequence → (node_at s n.right).height < (node_at s j).height
     deep-seq_down e = (seq-right s j n en _ refl L.here e).0
 
-    pub deep-alt_down : n.sort ≡ Alternation → (node_at s n.right).height < (node_at s j).height
+    deep-alt_down : n.sort ≡ Alternation → (node_at s n.right).height < (node_at s j).height
     deep-alt_down e = (alt_right s j n en _ refl L.here e).0
+
+    pub deep-two_down : (n.sort ≡ Sequence) ⊎ (n.sort ≡ Alternation) → (node_at s n.right).height < (node_at s j).height
+    deep-two_down (inl e) = deep-seq_down e
+    deep-two_down (inr e) = deep-alt_down e
 
     pub deep-group_down : n.sort ≡ Group → (node_at s n.left).height < (node_at s j).height
     deep-group_down e = (group-left s j n en _ refl L.here e).0
@@ -202,11 +204,15 @@ module _ (s : List ℕ) (i j around most : ℕ) (L : Deep s i j around most) whe
 
     -- a call on the left part: the measure is twice the height, and one more for the function that
     -- is called
-    pub seq-look : (t : ℕ) → 2 * (node_at s i).height ≡ t → n.sort ≡ Sequence → (2 * (node_at s n.left).height + 1 < t) × At s n.left
+    seq-look : (t : ℕ) → 2 * (node_at s i).height ≡ t → n.sort ≡ Sequence → (2 * (node_at s n.left).height + 1 < t) × At s n.left
     seq-look t et e = let x = seq-left s j n en _ refl L.here e in (omega (arith, x.0, L.lower), x.1)
 
-    pub alt_look : (t : ℕ) → 2 * (node_at s i).height ≡ t → n.sort ≡ Alternation → (2 * (node_at s n.left).height + 1 < t) × At s n.left
+    alt_look : (t : ℕ) → 2 * (node_at s i).height ≡ t → n.sort ≡ Alternation → (2 * (node_at s n.left).height + 1 < t) × At s n.left
     alt_look t et e = let x = alt_left s j n en _ refl L.here e in (omega (arith, x.0, L.lower), x.1)
+
+    pub two_look : (t : ℕ) → 2 * (node_at s i).height ≡ t → (n.sort ≡ Sequence) ⊎ (n.sort ≡ Alternation) → (2 * (node_at s n.left).height + 1 < t) × At s n.left
+    two_look t et (inl e) = seq-look t et e
+    two_look t et (inr e) = alt_look t et e
 
     -- the loop ends
     pub nest-letter : (a : ℕ) → n.sort ≡ Letter a → (r : ℕ) → r ≡ min (max most (around + 0)) 4 → Nesting s i r
@@ -218,7 +224,7 @@ module _ (s : List ℕ) (i j around most : ℕ) (L : Deep s i j around most) whe
     at-anchor : (x : Tree primary) → nullable x ≡ true → loop_nesting x ≡ 0 → (F : Tree factor) → FactorAt s n F → body F ≡ x → pick (eqb n.high 100) 1 0 ≡ min (loop_nesting F) 4
     at-anchor x u v F q z = rw (nest-body F q x z, u, v) (sym (once (eqb n.high 100)))
 
-    pub nest-anchor : (a : ℕ) → n.sort ≡ Anchor a → (c r : ℕ) → c ≡ pick (eqb n.high 100) 1 0 → r ≡ min (max most (around + c)) 4 → Nesting s i r
+    nest-anchor : (a : ℕ) → n.sort ≡ Anchor a → (c r : ℕ) → c ≡ pick (eqb n.high 100) 1 0 → r ≡ min (max most (around + c)) 4 → Nesting s i r
     unfolding loop_nesting nullable
     nest-anchor a e c r y z = rw (z, y) (L.so (pick (eqb n.high 100) 1 0) (as_anchor s j n en (λ p. pick (eqb n.high 100) 1 0 ≡ min (loop_nesting p) 4) a e go))
       where
@@ -226,10 +232,14 @@ module _ (s : List ℕ) (i j around most : ℕ) (L : Deep s i j around most) whe
         go F q (inl w) = at-anchor caret refl refl F q w.0
         go F q (inr w) = at-anchor dollar refl refl F q w.0
 
-    pub nest-empty : n.sort ≡ Empty → (c r : ℕ) → c ≡ pick (eqb n.high 100) 1 0 → r ≡ min (max most (around + c)) 4 → Nesting s i r
+    nest-empty : n.sort ≡ Empty → (c r : ℕ) → c ≡ pick (eqb n.high 100) 1 0 → r ≡ min (max most (around + c)) 4 → Nesting s i r
     unfolding loop_nesting nullable
     nest-empty e c r y z =
         rw (z, y) (L.so (pick (eqb n.high 100) 1 0) (as_empty s j n en (λ p. pick (eqb n.high 100) 1 0 ≡ min (loop_nesting p) 4) e (λ F q w. at-anchor empty refl refl F q w)))
+
+    pub nest-still : ((a : ℕ) × (n.sort ≡ Anchor a)) ⊎ (n.sort ≡ Empty) → (c r : ℕ) → c ≡ pick (eqb n.high 100) 1 0 → r ≡ min (max most (around + c)) 4 → Nesting s i r
+    nest-still (inl (a, e)) = nest-anchor a e
+    nest-still (inr e) = nest-empty e
 
     -- it goes on with the right part
     on-right : (m c r : ℕ) → r ≡ min (max most (around + c)) 4 → ((node_at s m).height < (node_at s j).height) × At s m → ((d : ℕ) → Nesting s m d → Nesting s j (max c d)) → Deep s i m around r
@@ -241,17 +251,21 @@ module _ (s : List ℕ) (i j around most : ℕ) (L : Deep s i j around most) whe
           few = (L.few.0, omega (arith, z));
         }
 
-    pub nest-seq : (c r : ℕ) → n.sort ≡ Sequence → Nesting s n.left c → r ≡ min (max most (around + c)) 4 → Deep s i n.right around r
+    nest-seq : (c r : ℕ) → n.sort ≡ Sequence → Nesting s n.left c → r ≡ min (max most (around + c)) 4 → Deep s i n.right around r
     unfolding loop_nesting
     nest-seq c r e f z =
         on-right n.right c r z (seq-right s j n en _ refl L.here e)
         (λ d h. as_seq s j n en (λ p. max c d ≡ min (loop_nesting p) 4) e (λ x b q. both-min (loop_nesting x) (loop_nesting b) c d (f (one (last x)) q.left) (h (one b) q.right)))
 
-    pub nest-alt : (c r : ℕ) → n.sort ≡ Alternation → Nesting s n.left c → r ≡ min (max most (around + c)) 4 → Deep s i n.right around r
+    nest-alt : (c r : ℕ) → n.sort ≡ Alternation → Nesting s n.left c → r ≡ min (max most (around + c)) 4 → Deep s i n.right around r
     unfolding loop_nesting
     nest-alt c r e f z =
         on-right n.right c r z (alt_right s j n en _ refl L.here e)
         (λ d h. as_alt s j n en (λ p. max c d ≡ min (loop_nesting p) 4) e (λ b p q. both-min (loop_nesting b) (loop_nesting p) c d (f (one b) q.left) (h p q.right)))
+
+    pub nest-two : (c r : ℕ) → (n.sort ≡ Sequence) ⊎ (n.sort ≡ Alternation) → Nesting s n.left c → r ≡ min (max most (around + c)) 4 → Deep s i n.right around r
+    nest-two c r (inl e) f z = nest-seq c r e f z
+    nest-two c r (inr e) f z = nest-alt c r e f z
 
     -- or inside the parentheses
     on-left : (t : Bool) → n.sort ≡ Group → ((p : Tree pattern) → Top p n.left s → (eqb n.high 100 && nullable p) ≡ t) → (d : ℕ) → Nesting s n.left d → Nesting s j (min (deeper t d) 4)
@@ -303,20 +317,9 @@ one_less h t e = omega arith
 
 -- ---- numbers
 
-pub looped_once : (h : ℕ) → h ≡ 100 → ◌≡◌ {A = ℕ} 1 (pick (eqb h 100) 1 0)
-looped_once h e = rw (eq-eqb h 100 e)
-
-pub looped_never : (h : ℕ) → (h ≡ 100 → ⊥) → ◌≡◌ {A = ℕ} 0 (pick (eqb h 100) 1 0)
-looped_never h e = rw (ne_eqb h 100 e)
-
-pub factor-1 : (n : ℕ) → n ≡ 0 → ◌≡◌ {A = ℕ} 1 (2 ^ n)
-factor-1 n e = rw e refl
-
-pub factor-2 : (n : ℕ) → n ≡ 1 → ◌≡◌ {A = ℕ} 2 (2 ^ n)
-factor-2 n e = rw e refl
-
-pub factor-4 : (n : ℕ) → n ≡ 2 → ◌≡◌ {A = ℕ} 4 (2 ^ n)
-factor-4 n e = rw e refl
-
-pub factor-8 : (n : ℕ) → n ≤ 3 → (n ≡ 0 → ⊥) → (n ≡ 1 → ⊥) → (n ≡ 2 → ⊥) → ◌≡◌ {A = ℕ} 8 (2 ^ n)
-factor-8 n h a b c = let e : n ≡ 3 = omega arith in rw e refl
+pub factor-is : (n : ℕ) → n ≤ 3 → (1 * 2 ^ n % 18446744073709551616 ≡ 2 ^ n) × (1 * 2 ^ n % 18446744073709551616 ≤ 8)
+factor-is zero h = (refl, omega arith)
+factor-is (suc zero) h = (refl, omega arith)
+factor-is (suc (suc zero)) h = (refl, omega arith)
+factor-is (suc (suc (suc zero))) h = (refl, omega arith)
+factor-is (suc (suc (suc (suc n)))) h = absurd (omega arith)

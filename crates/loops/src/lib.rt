@@ -21,32 +21,25 @@ pub fn can_be_empty(room: &[u16], i: usize) -> bool
     let mut node = i;
     loop {
         let n = node_at(room, node);
-        let sort = n.sort;
-        let left = n.left;
-        let right = n.right;
         if n.low == 0 {
             return true;
         }
-        match sort {
+        match n.sort {
             Sort::Letter(_) => return false,
-            Sort::Anchor(_) => return true,
-            Sort::Empty => return true,
+            Sort::Anchor(_) | Sort::Empty => return true,
             Sort::Sequence => {
-                if can_be_empty(room, left) {
-                    node = right;
-                    continue;
+                if !can_be_empty(room, n.left) {
+                    return false;
                 }
-                return false;
+                node = n.right;
             }
             Sort::Alternation => {
-                if can_be_empty(room, left) {
+                if can_be_empty(room, n.left) {
                     return true;
                 }
-                node = right;
+                node = n.right;
             }
-            Sort::Group => {
-                node = left;
-            }
+            Sort::Group => node = n.left,
         }
     }
 }
@@ -59,17 +52,7 @@ fn deepest(most: usize, around: usize, inside: usize) -> usize
     requires { (around ≤ 4) × (inside ≤ 4) }
     ensures { (result ≡ min (max most (around + inside)) 4) × (result ≤ 4) }
 {
-    let here = around + inside;
-    if TOO_MANY < here {
-        return TOO_MANY;
-    }
-    if here < most {
-        if TOO_MANY < most {
-            return TOO_MANY;
-        }
-        return most;
-    }
-    here
+    (around + inside).max(most).min(TOO_MANY)
 }
 
 // How many unbounded quantifiers over bodies that can take no row are nested in one another in the
@@ -85,35 +68,18 @@ pub fn nesting(room: &[u16], i: usize) -> usize
     let mut most = 0usize;
     loop {
         let n = node_at(room, node);
-        let sort = n.sort;
-        let left = n.left;
-        let right = n.right;
-        let high = n.high;
-        match sort {
+        match n.sort {
             Sort::Letter(_) => return deepest(most, around, 0),
-            Sort::Anchor(_) => return deepest(most, around, looped(high)),
-            Sort::Empty => return deepest(most, around, looped(high)),
-            Sort::Sequence => {
-                let inside = part_nesting(room, left);
-                most = deepest(most, around, inside);
-                node = right;
-            }
-            Sort::Alternation => {
-                let inside = part_nesting(room, left);
-                most = deepest(most, around, inside);
-                node = right;
+            Sort::Anchor(_) | Sort::Empty => return deepest(most, around, looped(n.high)),
+            Sort::Sequence | Sort::Alternation => {
+                most = deepest(most, around, part_nesting(room, n.left));
+                node = n.right;
             }
             Sort::Group => {
-                if high != 100 {
-                    node = left;
-                    continue;
-                }
-                if can_be_empty(room, left) {
+                if n.high == 100 && can_be_empty(room, n.left) {
                     around = deepest(0, around, 1);
-                    node = left;
-                    continue;
                 }
-                node = left;
+                node = n.left;
             }
         }
     }
@@ -123,10 +89,7 @@ pub fn nesting(room: &[u16], i: usize) -> usize
 fn looped(high: usize) -> usize
     ensures { (result ≡ pick (eqb high 100) 1 0) × (result ≤ 4) }
 {
-    if high == 100 {
-        return 1;
-    }
-    0
+    usize::from(high == 100)
 }
 
 // The same of a part of a tree. Most parts are letters, which are not worth a call.
@@ -135,11 +98,10 @@ fn part_nesting(room: &[u16], i: usize) -> usize
     requires { At room.now i }
     ensures { Nesting room.now i result × (result ≤ 4) }
 {
-    let sort = sort_at(room, i);
-    if let Sort::Letter(_) = sort {
-        return 0;
+    match sort_at(room, i) {
+        Sort::Letter(_) => 0,
+        _ => nesting(room, i),
     }
-    nesting(room, i)
 }
 
 // R-3's factor F, 2 to the power of the nesting.
@@ -147,14 +109,5 @@ pub fn factor_of(nesting: usize) -> usize
     requires { nesting ≤ 3 }
     ensures { (result ≡ 2 ^ nesting) × (result ≤ 8) }
 {
-    if nesting == 0 {
-        return 1;
-    }
-    if nesting == 1 {
-        return 2;
-    }
-    if nesting == 2 {
-        return 4;
-    }
-    8
+    1 << nesting
 }

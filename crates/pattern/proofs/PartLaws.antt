@@ -2,7 +2,7 @@
 use mathlib.Core.Path.{◌≡◌, refl, sym, ◌∙◌, subst}
 use mathlib.Core.Bool.{Bool, true, false, false≢true}
 use mathlib.Core.List.{List, [], ◌∷◌, ◌++◌}
-use Rattle.std.specs.Prelude.{Result, Ok, Err}
+use Rattle.std.specs.Prelude.{Ok, Err}
 use Rattle.text_bytes.specs.declared.Broken.{Broken}
 use Prim.Native.Nat.{ℕ, ◌+◌, ◌*◌, ◌-◌, ◌≤◌, ◌<◌, min}
 use native.Mathlib.Omega.{arith}
@@ -111,12 +111,6 @@ begun-none k s at c m sort forks f =
     }
 
 module _ (k : Rank) (s : List ℕ) (at c : ℕ) (m0 : List ℕ) (sort : Sort) (forks from to : ℕ) (m : List ℕ) (g : Begun k s at c m0 sort forks from to m) where
-  pub begun-fits : Fits s from m to
-  begun-fits = record { in_text = g.in_text; fits = omega (arith, g.fits); small = omega (arith, g.small) }
-
-  pub begun-length : (k2 : Rank) (m1 : List ℕ) (r : Result Step Broken) → PhraseReads k2 s from to m m1 r → length m1 ≡ length m0
-  begun-length k2 m1 r h = h.len ∙ g.len
-
   module _ (k2 : Rank) (m1 : List ℕ) (f : Step) (h : PhraseReads k2 s from to m m1 (Ok f)) where
     still : Pending g.parts c to m1
     still = pending_same g.parts c to m m1 (λ j l. node_kept _ _ m m1 j h.kept (omega arith)) g.pending
@@ -146,9 +140,6 @@ module _ (k : Rank) (s : List ℕ) (at c : ℕ) (m0 : List ℕ) (sort : Sort) (f
           low = omega (arith, v.low);
           few_places = v.few_places;
         }))
-
-    begun-less : (then : ℕ) → f.at ≤ then → then ≤ length s → length s - then < length s - from
-    begun-less then ln li = let w = h.on in omega (arith, w.on)
 
     begun_more : (p : PartOf to m1 f) (then : ℕ) → f.at ≤ then → then ≤ length s
         → ((t : List ℕ) (e : Broken) → PhraseReads k s then f.count m1 t (Err e) → PhraseReads k s from to m t (Err e))
@@ -182,9 +173,6 @@ module _ (s : List ℕ) (at c : ℕ) (m0 : List ℕ) (from to : ℕ) (m : List �
     pub branch-whole : b ≡ true → (u : List ℕ) (w : Step) → ((i : Chained m1 c to f) → JoinedAll Sequence 0 i.parts to m1 f u w) → PhraseReads branch s at c m0 u (Ok w)
     branch-whole e = begun-done branch s at c m0 Sequence 0 from to m g factor m1 f h (branch-ends s from to m m1 f h y ey (sym eb ∙ e))
 
-    pub branch_less : length s - f.at < length s - from
-    branch_less = begun-less branch s at c m0 Sequence 0 from to m g factor m1 f h f.at (omega arith) h.on.inside
-
     pub branch-again : b ≡ false → Begun branch s at c m0 Sequence 0 f.at f.count m1
     branch-again e =
         let w = h.on in
@@ -199,9 +187,6 @@ module _ (s : List ℕ) (at c : ℕ) (m0 : List ℕ) (from to : ℕ) (m : List �
   module _ (f : Step) (h : PhraseReads branch s from to m m1 (Ok f)) (y : ℕ) (ey : y ≡ peek (drop f.at s)) where
     pub pattern-whole : (y ≡ 124 → ⊥) → (u : List ℕ) (w : Step) → ((i : Chained m1 c to f) → JoinedAll Alternation 1 i.parts to m1 f u w) → PhraseReads pattern s at c m0 u (Ok w)
     pattern-whole e = begun-done pattern s at c m0 Alternation 1 from to m g branch m1 f h (pattern-ends s from to m m1 f h y ey e)
-
-    pub pattern-less : (then : ℕ) → SkipTo s (f.at + 1) then → length s - then < length s - from
-    pattern-less then k = begun-less pattern s at c m0 Alternation 1 from to m g branch m1 f h then (omega (arith, k.1)) k.2
 
     pub pattern-again : y ≡ 124 → (then : ℕ) → SkipTo s (f.at + 1) then → Begun pattern s at c m0 Alternation 1 then f.count m1
     pattern-again e then k =

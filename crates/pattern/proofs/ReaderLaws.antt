@@ -2,7 +2,7 @@
 use mathlib.Core.Path.{◌≡◌, refl, sym, ap, ◌∙◌, subst}
 use mathlib.Core.Bool.{Bool, true, false}
 use mathlib.Core.List.{List}
-use Prim.Native.Nat.{ℕ, zero, suc, ◌+◌, ◌*◌, ◌-◌, ◌≤◌, ◌<◌, max, min}
+use Prim.Native.Nat.{ℕ, zero, suc, ◌+◌, ◌*◌, ◌-◌, ◌≤◌, max, min}
 use native.Mathlib.Omega.{arith}
 use lib.Dec.{eqb}
 use lib.ListN.{length, get_or, drop, length-drop}
@@ -23,7 +23,7 @@ use Rattle.nodes.specs.declared.Sort.{Sort}
 use Rattle.nodes.specs.declared.Sort.TheVariants.{Empty, Sequence, Alternation, Group}
 use Rattle.nodes.specs.declared.Node.{Node}
 use Rattle.trees.specs.Written.{plain_node, with_mark, node_count, height, own, written}
-use Rattle.primaries.specs.Readers.{fork_of, KeptOutside, Fits, Says, On, PhraseReads, SaysHead, Wrote, HeadOn, SimpleSays, ReadsHead, FitsHead, step_to, FinishedMark, FinishedAs, FactorFinished, Joined, SkipTo, EmptyIs, ShutNeeds, Shut, ShutIs}
+use Rattle.primaries.specs.Readers.{fork_of, KeptOutside, Fits, Says, On, PhraseReads, SaysHead, Wrote, HeadOn, SimpleSays, ReadsHead, step_to, FinishedMark, FinishedAs, FactorFinished, Joined, SkipTo, EmptyIs, Shut, ShutIs}
 use Rattle.primaries.proofs.PrimaryLaws.{leaf_on}
 use Rattle.primaries.specs.declared.Step.{Step}
 use Rattle.primaries.specs.declared.Head.{Head}
@@ -324,19 +324,6 @@ factor-fails s at c m0 m1 e h = no-reading factor s at c m0 m1 e h.kept h.len λ
     let x = head_bad s c e _ (h.says n (omega arith)) in (times-bad n (drop at s) _ x.0, x.1)
 
 module _ (s : List ℕ) (at c : ℕ) (m0 m1 : List ℕ) (p : Head) (h : ReadsHead s at c m0 m1 (Ok p)) where
-  pub factor-fits : Fits s at m0 c → FitsHead s m1 p
-  factor-fits f =
-      let w = h.on in
-      record {
-        in_text = w.inside;
-        holding = record {
-          fits = omega (arith, w.few, w.inside, w.on, f.fits, h.len);
-          few = omega (arith, w.few, w.inside, w.on, f.small);
-          small = w.small;
-        };
-        few_places = w.few_places;
-      }
-
   module _ (m2 : List ℕ) where
     put_kept : (n : Node) → m2 ≡ put_node m1 p.count n → KeptOutside (8 * c) (room_of s at c) m0 m2
     put_kept n e =
@@ -505,11 +492,6 @@ module _ (s : List ℕ) (at c : ℕ) (m0 : List ℕ) (b : ℕ) (eb : b ≡ peek 
           wrote = refl;
         }
 
-    pub primary-again : (u : ℕ) → 4 * (length s - at) + 0 ≡ u → Fits s at m0 c → (4 * (length s - from) + 3 < u) × Fits s from m0 c
-    primary-again u e f =
-        let i = inside s at 40 (omega arith) (sym eb ∙ op) in
-        (omega (arith, k.1, k.2), record { in_text = k.2; fits = omega (arith, k.1, k.2, f.fits); small = omega (arith, k.1, k.2, f.small) })
-
     inner_kept : (m1 : List ℕ) → KeptOutside (8 * c) (room_of s from c) m0 m1 → KeptOutside (8 * c) (room_of s at c) m0 m1
     inner_kept m1 q = kept_wide (8 * c) (room_of s from c) (8 * c) (room_of s at c) m0 m1 (omega arith) (omega (arith, k.1, k.2)) q
 
@@ -527,16 +509,6 @@ module _ (s : List ℕ) (at c : ℕ) (m0 : List ℕ) (b : ℕ) (eb : b ≡ peek 
           let x = says-bad pattern s c m0 m1 e _ (h.says n (deep n d)) in (read-inner n _ x.0, x.1)
 
     module _ (f : Fits s at m0 c) (m1 : List ℕ) (p : Step) (h : PhraseReads pattern s from c m0 m1 (Ok p)) where
-      pub primary-needs : ShutNeeds p
-      primary-needs =
-          let w = h.on in
-          record {
-            some = omega (arith, w.some);
-            low = omega (arith, w.low, w.few, w.inside, w.on, k.1, f.small);
-            few_places = w.few_places;
-            few_forks = w.few_forks;
-          }
-
       module _ (ny : y ≡ 41 → ⊥) where
         group-open : (peek (drop p.at s) ≡ 41 → ⊥) → ReadsHead s at c m0 m1 (Err (record { at = p.at }))
         group-open nz = no-head_reading s at c m0 m1 (record { at = p.at }) (inner_kept m1 h.kept) h.len λ n d.

@@ -21,9 +21,6 @@ use Rattle.pattern.proofs.ReaderLaws.{Read, says-bad, says-got}
 
 -- ---- a whole text
 
-pub text-fits : (s : List ℕ) (from : ℕ) (m : List ℕ) → Fits s 0 m 0 → SkipTo s 0 from → Fits s from m 0
-text-fits s from m f k = record { in_text = k.2; fits = omega (arith, f.fits, k.2); small = omega (arith, f.small) }
-
 module _ (s : List ℕ) (from : ℕ) (m0 m1 : List ℕ) (p : Result Step Broken) (k : SkipTo s 0 from) (h : PhraseReads pattern s from 0 m0 m1 p) where
   text-is : tree_of s ≡ whole_tree (read (4 * length s + 4) pattern (drop from s))
   unfolding tree_of

@@ -5,8 +5,6 @@ use mathlib.Core.List.{List}
 use mathlib.Core.Logic.{◌⊎◌, inl, inr}
 use Prim.Native.Nat.{ℕ, ◌+◌, ◌-◌, ◌≤◌, ◌<◌, min}
 use native.Mathlib.Omega.{arith}
-use mir.Val.{Fits as Fits-in}
-use mir.Syntax.{w64}
 use lib.Dec.{eqb}
 use lib.ListN.{length, drop}
 use borrow.Author.Tests.{eq-eqb, ne_eqb}
@@ -16,10 +14,10 @@ use Rattle.rules.specs.Reader.{peek, rest, skip_spaces, simple}
 use Rattle.text_bytes.specs.declared.Broken.{Broken}
 use Rattle.text_bytes.proofs.ByteLaws.{inside, rest-drop, letter-yes, letter-no}
 use Rattle.nodes.specs.declared.Sort.{Sort}
-use Rattle.nodes.specs.declared.Sort.TheVariants.{Letter, Anchor, Empty, Group}
+use Rattle.nodes.specs.declared.Sort.TheVariants.{Letter, Anchor, Group}
 use Rattle.nodes.specs.declared.Node.{Node}
 use Rattle.trees.specs.Written.{plain_node, node_count, own}
-use Rattle.primaries.specs.Readers.{SaysHead, HeadOn, SimpleSays, SkipTo, LeafIs, EmptyIs, ShutNeeds, ShutIs}
+use Rattle.primaries.specs.Readers.{SaysHead, HeadOn, SimpleSays, SkipTo, LeafIs, ShutIs}
 use Rattle.primaries.specs.declared.Step.{Step}
 use Rattle.primaries.specs.declared.Head.{Head}
 
@@ -125,16 +123,7 @@ before-end s at b k eb e h = inside s at k h (sym eb ∙ e)
 
 -- ---- parentheses
 
-pub empty-is : (s : List ℕ) (at c to : ℕ) (n : Node) → SkipTo s (at + 1) to → n ≡ plain_node Empty 0 0 0 0 → EmptyIs s at c (record { at = to; count = c; node = n })
-empty-is s at c to n k e = record { to = to; skips = k; is = rw e refl }
-
 module _ (s : List ℕ) (p : Step) where
-  pub shut-low : ShutNeeds p → Fits-in w64 (p.height + 1)
-  shut-low h = record { fits = omega (arith, h.low) }
-
-  pub shut-few : ShutNeeds p → Fits-in w64 (p.forks + p.places)
-  shut-few h = record { fits = omega (arith, h.few_places, h.few_forks) }
-
   module _ (b : ℕ) (eb : b ≡ peek (drop p.at s)) where
     pub shut_open : (b ≡ 41 → ⊥) → ShutIs s p (broken_at p.at)
     shut_open nb = record { open_still = λ x. refl; shuts = λ y. absurd (nb (eb ∙ y)) }

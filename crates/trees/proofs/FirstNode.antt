@@ -1,7 +1,7 @@
 -- Where a tree's nodes begin: the first node of a tree by the sort of its top node.
 use mathlib.Core.Path.{◌≡◌, refl, ap, ◌∙◌, subst}
 use mathlib.Core.List.{List}
-use mathlib.Core.Logic.{⊎_elim}
+use mathlib.Core.Logic.{◌⊎◌, inl, inr, ⊎_elim}
 use Prim.Native.Nat.{ℕ, ◌+◌, ◌*◌, ◌-◌, ◌≤◌}
 use native.Mathlib.Omega.{arith}
 use lib.ListN.{length}
@@ -30,18 +30,24 @@ module _ (s : List ℕ) (i : ℕ) (n : Node) (en : n ≡ node_at s i) where
   leaf (bare y) x e z = omega (arith, ap (λ (w : Tree primary). node_count w) e)
   leaf (times y f q) x e z = omega (arith, ap (λ (w : Tree primary). node_count w) e)
 
-  pub first-letter : (a : ℕ) → n.sort ≡ Letter a → (p : Tree pattern) → Top p i s → i + node_count p ≡ i + 1
+  first-letter : (a : ℕ) → n.sort ≡ Letter a → (p : Tree pattern) → Top p i s → i + node_count p ≡ i + 1
   unfolding node_count
   first-letter a e = as_letter s i n en (λ p. i + node_count p ≡ i + 1) a e (λ F q j. leaf F (letter a) j refl)
 
-  pub first-anchor : (a : ℕ) → n.sort ≡ Anchor a → (p : Tree pattern) → Top p i s → i + node_count p ≡ i + 1
+  first-anchor : (a : ℕ) → n.sort ≡ Anchor a → (p : Tree pattern) → Top p i s → i + node_count p ≡ i + 1
   unfolding node_count
   first-anchor a e =
       as_anchor s i n en (λ p. i + node_count p ≡ i + 1) a e (λ F q j. ⊎_elim (λ w. leaf F caret w.0 refl) (λ w. leaf F dollar w.0 refl) j)
 
-  pub first-empty : n.sort ≡ Empty → (p : Tree pattern) → Top p i s → i + node_count p ≡ i + 1
+  first-empty : n.sort ≡ Empty → (p : Tree pattern) → Top p i s → i + node_count p ≡ i + 1
   unfolding node_count
   first-empty e = as_empty s i n en (λ p. i + node_count p ≡ i + 1) e (λ F q j. leaf F empty j refl)
+
+  -- of a node with no parts
+  pub first_leaf : ((a : ℕ) × (n.sort ≡ Letter a)) ⊎ (((a : ℕ) × (n.sort ≡ Anchor a)) ⊎ (n.sort ≡ Empty)) → (p : Tree pattern) → Top p i s → i + node_count p ≡ i + 1
+  first_leaf (inl (a, e)) = first-letter a e
+  first_leaf (inr (inl (a, e))) = first-anchor a e
+  first_leaf (inr (inr e)) = first-empty e
 
   module _ (r : ℕ) (f : (p : Tree pattern) → Top p n.left s → r + node_count p ≡ n.left + 1) where
     at-node : (j : ℕ) → i ≡ j → n ≡ node_at s j
@@ -76,14 +82,9 @@ module _ (s : List ℕ) (i : ℕ) (n : Node) (en : n ≡ node_at s i) where
         let q : n.left ≡ c + node_count b - 1 = ap (λ (y : Node). y.left) (at-node (c + node_count b + node_count p) (omega arith) ∙ t.held.2) in
         let z = f (one b) (record { base = c; top = omega (arith, branch-nodes b); held = t.held.0; fits = omega arith }) in omega (arith, branch-nodes b)
 
-    pub first-seq : n.sort ≡ Sequence → (p : Tree pattern) → Top p i s → r + node_count p ≡ i + 1
+    -- of a node with parts
+    pub first_parted : (n.sort ≡ Sequence) ⊎ ((n.sort ≡ Alternation) ⊎ (n.sort ≡ Group)) → (p : Tree pattern) → Top p i s → r + node_count p ≡ i + 1
     unfolding Parted
-    first-seq e = first_part (rw e tt)
-
-    pub first-alt : n.sort ≡ Alternation → (p : Tree pattern) → Top p i s → r + node_count p ≡ i + 1
-    unfolding Parted
-    first-alt e = first_part (rw e tt)
-
-    pub first_group : n.sort ≡ Group → (p : Tree pattern) → Top p i s → r + node_count p ≡ i + 1
-    unfolding Parted
-    first_group e = first_part (rw e tt)
+    first_parted (inl e) = first_part (rw e tt)
+    first_parted (inr (inl e)) = first_part (rw e tt)
+    first_parted (inr (inr e)) = first_part (rw e tt)

@@ -1,7 +1,7 @@
 -- The nodes of a tree in a room, each behind its parts.
 use Rattle.std.specs.Prelude.{Bool, false, List, ℕ, ◌+◌, ◌*◌, ◌-◌, ◌≤◌, max, min, eqb}
 use Rattle.rules.specs.Basics.{pick}
-use Rattle.rules.specs.Language.{Form, lower, upper, Rank, factor, primary, Tree, one, more, last, next, bare, times, letter, caret, dollar, empty, group}
+use Rattle.rules.specs.Language.{Form, lower, upper, Rank, primary, Tree, one, more, last, next, bare, times, letter, caret, dollar, empty, group}
 use Rattle.rules.specs.Places.{round_places, fork, place_count}
 use Rattle.marks.specs.Shows.{code_of, high_of}
 use Rattle.nodes.specs.Nodes.{put_node}

@@ -31,7 +31,7 @@ pub fn plain_node(sort: Sort, left: usize, right: usize, height: usize, places: 
 pub fn capped(n: usize) -> usize
     ensures { result ≡ min n 257 }
 {
-    if 257 < n { 257 } else { n }
+    n.min(257)
 }
 
 // The places of low to high rounds of a body with c places, counted up to 257.
@@ -53,14 +53,8 @@ pub fn first_node(room: &[u16], i: usize) -> usize
     ensures { (p : Tree Rank.pattern) → Top p i room.now → result + node_count p ≡ i + 1 }
 {
     let n = node_at(room, i);
-    let sort = n.sort;
-    let left = n.left;
-    match sort {
-        Sort::Letter(_) => i,
-        Sort::Anchor(_) => i,
-        Sort::Empty => i,
-        Sort::Sequence => first_node(room, left),
-        Sort::Alternation => first_node(room, left),
-        Sort::Group => first_node(room, left),
+    match n.sort {
+        Sort::Letter(_) | Sort::Anchor(_) | Sort::Empty => i,
+        Sort::Sequence | Sort::Alternation | Sort::Group => first_node(room, n.left),
     }
 }

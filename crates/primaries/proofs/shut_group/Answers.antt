@@ -1,5 +1,5 @@
 -- `primaries::shut_group` meets its contract. Laws: PrimaryLaws.
-use Rattle.primaries.proofs.PrimaryLaws.{before-end, shut-low, shut-few, shut_open, shut-whole}
+use Rattle.primaries.proofs.PrimaryLaws.{before-end, shut_open, shut-whole}
 use native.Mathlib.Omega.{arith}
 use borrow.Author.Rules.{rules}
 use Rattle.primaries.proofs.shut_group.Goals as goal

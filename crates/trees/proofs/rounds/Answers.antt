@@ -2,7 +2,6 @@
 use Rattle.trees.proofs.RoundLaws.{rounds_open, rounds_shut, rounds_mul}
 use native.Mathlib.Nat.{mul-le-mul}
 use native.Mathlib.Omega.{arith}
-use borrow.Author.Rules.{rules}
 use Rattle.trees.proofs.rounds.Goals as goal
 
 pub overflow_mul-first : goal.overflow_mul-first
