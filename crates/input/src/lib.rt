@@ -87,11 +87,9 @@ pub fn rows_of(bytes: &[u8], rows: &mut [i32]) -> usize
     requires { length bytes.now / 4 ≤ length rows.old }
     ensures { (rows.new ≡ wrote rows.old 0 (rows_of bytes.now)) × (result ≡ length (rows_of bytes.now)) }
 {
-    let count = bytes.len() / 4;
-    let mut k = 0;
-    while k < count {
+    let count = bytes.len() / NUMBER_BYTES;
+    for k in 0..count {
         rows[k] = signed_word(le32_at(bytes, 4 * k));
-        k += 1;
     }
     count
 }
