@@ -1,9 +1,9 @@
 -- A state that stands for some reports: its words, and the state that stands for one report more, by
 -- what the code writes.
 use mathlib.Core.Path.{◌≡◌, refl, sym, ap, ap₂, ◌∙◌}
-use mathlib.Core.Bool.{true, false}
+use mathlib.Core.Bool.{true}
 use mathlib.Core.List.{List, [], ◌∷◌, ◌++◌, map, append_assoc}
-use Prim.Native.Nat.{ℕ, zero, suc, ◌+◌, ◌*◌, ◌≤◌, ◌<◌}
+use Prim.Native.Nat.{ℕ, zero, suc, ◌+◌, ◌≤◌, ◌<◌}
 use native.Mathlib.Numerals.{add-one}
 use native.Mathlib.Omega.{arith}
 use lib.Dec.{leb}
@@ -16,12 +16,12 @@ use Rattle.rules.specs.Entries.{Reported}
 use Rattle.laws.proofs.Appended.{wrote_none}
 use Rattle.laws.proofs.Lists.{length-wrote}
 use Rattle.tally.specs.declared.NamedColumns.{NamedColumns}
-use Rattle.tally.specs.Table.{DepotReport, match_cell, occurs, belonging, counted, cells, listed}
+use Rattle.tally.specs.Table.{DepotReport, match_cell, counted, cells, listed}
 use Rattle.tally.specs.Counting.{all_up}
 use Rattle.tally.proofs.Tallying.{counted-on, listed-on, refused_none, done_all, cells-refused, cells-done, cells-long, match-cells, occurs-few, all_up-front, list_on, listed-done}
 use Rattle.depot_state.specs.State.{state_of, StateStands, Begun}
 use Rattle.depot_state.specs.Steps.{named_in, list_fits, list_with, state_with, state_up}
-use Rattle.depot_state.proofs.Words.{rep_on, get_d_tail, set-tail, new_words}
+use Rattle.depot_state.proofs.Words.{get_d_tail, set-tail, new_words}
 
 -- ---- a new state
 

@@ -1,22 +1,19 @@
 -- The words of a state as the code reads and writes them.
-use mathlib.Core.Path.{◌≡◌, refl, sym, ap, ap₂, ◌∙◌}
+use mathlib.Core.Path.{◌≡◌, refl, sym, ap, ◌∙◌}
 use mathlib.Core.Bool.{true, false}
 use mathlib.Core.List.{List, [], ◌∷◌, ◌++◌}
 use Prim.Native.Nat.{ℕ, zero, suc, ◌+◌, ◌*◌, ◌-◌, ◌≤◌, ◌<◌}
-use native.Mathlib.Nat.{add-zero, zero-add}
-use native.Mathlib.Numerals.{add-one}
 use native.Mathlib.Omega.{arith}
-use lib.Dec.{leb}
 use lib.IntN.{ℤ}
-use lib.ListN.{length, get_or, set, drop, replicate, length-set, length-append, length-drop}
-use lib.Seq.{drop-cons, drop-drop, set_at}
+use lib.ListN.{length, get_or, set, drop, replicate, length-set, length-drop}
+use lib.Seq.{drop-drop}
 use borrow.Author.Tests.{le-leb, lt-leb}
-use Rattle.rules.specs.Query.{misplaced, columns_of, parts}
+use Rattle.rules.specs.Query.{columns_of, parts}
 use Rattle.rules.specs.Rows.{table_of}
 use Rattle.tally.specs.Counting.{all_up, cells_in, Countable}
 use Rattle.tally.proofs.Reading.{all_up-long}
 use Rattle.named.proofs.Shapes.{shape_is}
-use Rattle.depot_state.specs.Steps.{named_in, list_fits, cells_named, state_up, Listing, Counts}
+use Rattle.depot_state.specs.Steps.{named_in, list_fits, cells_named, state_up, Counts}
 
 -- ---- zeros at the front
 

@@ -1,6 +1,6 @@
 -- What the calls of R-4 keep between them: the state's words and the lent list, told from the
 -- reports of the partitions so far.
-use Rattle.std.specs.Prelude.{◌≡◌, List, [], ◌∷◌, ◌++◌, ℕ, ◌+◌, ◌*◌, ◌≤◌, ◌<◌, length, drop}
+use Rattle.std.specs.Prelude.{◌≡◌, List, [], ◌∷◌, ◌++◌, ℕ, ◌*◌, ◌≤◌, ◌<◌, length, drop}
 use Rattle.rules.specs.Basics.{wrote}
 use Rattle.tally.specs.declared.NamedColumns.{NamedColumns}
 use Rattle.tally.specs.Table.{DepotReport, counted, cells, listed}

@@ -1,7 +1,6 @@
 -- What the code does with a state's words and the list, whatever they hold: no rule of R-4, but its
 -- steps.
 use Rattle.std.specs.Prelude.{◌≡◌, Bool, false, List, ℕ, ◌+◌, ◌*◌, ◌≤◌, ◌<◌, leb, ℤ, length, get_or, set}
-use Rattle.rules.specs.Basics.{pick}
 use Rattle.rules.specs.Rows.{table_of}
 use Rattle.rules.specs.Query.{misplaced, columns_of, parts}
 use Rattle.tally.specs.declared.NamedColumns.{NamedColumns}

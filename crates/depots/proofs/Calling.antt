@@ -1,16 +1,15 @@
 -- The calls of R-4 from the search's promise alone: one law for each way through the code.
-use mathlib.Core.Path.{◌≡◌, refl, sym, ap, ap₂, ◌∙◌}
+use mathlib.Core.Path.{◌≡◌, refl, sym, ap, ◌∙◌}
 use mathlib.Core.Bool.{Bool, true, false, not, ◌&&◌, ◌||◌, true≢false}
 use mathlib.Core.List.{List, [], ◌∷◌, ◌++◌, map}
 use mathlib.Core.Logic.{◌⊎◌, inl, inr}
 use mathlib.Core.Option.{none}
 use Prim.Native.Nat.{ℕ, ◌+◌, ◌*◌, ◌≤◌, ◌<◌}
-use native.Mathlib.Nat.{le_trans}
 use native.Mathlib.Omega.{arith}
 use lib.Dec.{eqb, leb, ltb}
 use lib.IntN.{ℤ}
 use lib.ListN.{length, get_or}
-use borrow.Author.Tests.{leb-true, lt-leb, le-leb, ltb-true}
+use borrow.Author.Tests.{leb-true, le-leb, ltb-true}
 use Rattle.rules.specs.Basics.{pick, every}
 use Rattle.rules.specs.Rows.{table_of}
 use Rattle.rules.specs.Query.{cut, misplaced, columns_of, parts}
@@ -28,12 +27,12 @@ use Rattle.search.specs.Promise.{Promised}
 use Rattle.named.specs.Outside.{outside, is_three}
 use Rattle.tally.specs.declared.NamedColumns.{NamedColumns}
 use Rattle.tally.specs.Table.{DepotReport, match_cell, listed}
-use Rattle.tally.specs.Counting.{cells_in, Countable}
+use Rattle.tally.specs.Counting.{cells_in}
 use Rattle.depot_state.specs.State.{StateStands}
-use Rattle.depot_state.specs.Steps.{named_in, list_fits, list_with, state_with, state_up, cells_named, Listing, Counts}
+use Rattle.depot_state.specs.Steps.{named_in, list_fits, list_with, state_with, state_up, cells_named, Counts}
 use Rattle.depot_state.proofs.Standing.{partitions_are, named-are, state_long, fits-when, stands_listed, stands_counted}
 use Rattle.depots.specs.Partition.{partition_of, depot_report, Parted}
-use Rattle.depots.specs.Calls.{Input, Output, partition_in, depot_report_in, DepotCall, Calls}
+use Rattle.depots.specs.Calls.{Input, Calls}
 use Rattle.depots.proofs.Firsts.{countable, few_matches, cells_are}
 
 -- ---- answers are small

@@ -4,8 +4,7 @@
 use mathlib.Core.Path.{◌≡◌, refl, sym, ap, ap₂, ◌∙◌}
 use mathlib.Core.Bool.{Bool}
 use mathlib.Core.List.{List, [], ◌∷◌, ◌++◌, map}
-use mathlib.Core.Logic.{inl}
-use mathlib.Core.Option.{Option, none}
+use mathlib.Core.Option.{none}
 use Prim.Native.Nat.{ℕ, zero, suc, ◌+◌, ◌*◌, ◌/◌, ◌%◌, ◌≤◌, ◌<◌}
 use native.Mathlib.Nat.{mul-le-mul, le_refl, div-add-mod'}
 use native.Mathlib.Omega.{arith}
@@ -22,7 +21,7 @@ use Rattle.rules.specs.Preferment.{Reports, finished, unmatched, matched, lost, 
 use Rattle.rules.specs.Search.{Match, End, Skip, labels, shown, stand_at}
 use Rattle.rules.specs.Report.{match_numbers, numbers_of}
 use Rattle.rules.specs.Answers.{Task, task_of, Buffers, Memory, refusal, walk_within}
-use Rattle.rules.specs.Entries.{Reported, reported_in, reported_one, reported_all}
+use Rattle.rules.specs.Entries.{reported_in, reported_one, reported_all}
 use Rattle.rules.specs.Demands.{Demands}
 use Rattle.laws.proofs.Limits.{match-long, numbers_long, limits}
 use Rattle.laws.proofs.Lists.{length-wrote, front_wrote}

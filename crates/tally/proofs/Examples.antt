@@ -4,11 +4,10 @@ use mathlib.Core.Path.{◌≡◌, refl}
 use mathlib.Core.List.{List, [], ◌∷◌, ◌++◌}
 use Prim.Native.Nat.{ℕ}
 use lib.IntN.{ℤ, pos, negsuc}
-use lib.ListN.{length}
 use Rattle.rules.specs.Rows.{Table}
 use Rattle.rules.specs.Entries.{Reported}
 use Rattle.tally.specs.declared.NamedColumns.{NamedColumns}
-use Rattle.tally.specs.Table.{DepotReport, counted, cells, listed}
+use Rattle.tally.specs.Table.{DepotReport, counted, listed}
 
 abbrev named : NamedColumns
 named = record { depot = 1; month = 2 }

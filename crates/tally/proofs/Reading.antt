@@ -2,20 +2,18 @@
 use mathlib.Core.Path.{◌≡◌, refl, sym, ap, ap₂, ◌∙◌}
 use mathlib.Core.List.{List, [], ◌∷◌, ◌++◌}
 use mathlib.Core.Bool.{Bool, true, false}
-use Prim.Native.Nat.{ℕ, zero, suc, ◌+◌, ◌*◌, ◌≤◌, ◌<◌, min}
+use Prim.Native.Nat.{ℕ, suc, ◌+◌, ◌*◌, ◌≤◌, ◌<◌, min}
 use native.Mathlib.Omega.{arith}
 use lib.IntN.{ℤ, pos, nat_abs}
 use lib.Signed.{mag, non_neg, nat_abs-le}
 use lib.Dec.{T, ltb}
 use lib.ListN.{length, get_or, set, length-set}
-use lib.Seq.{set-get_or}
 use mir.Syntax.{w32, w64}
-use mir.Val.{Fits, SFits, to_z, of_z}
+use mir.Val.{Fits, to_z, of_z}
 use mir.Facts.{to_z-of_z}
 use borrow.Author.Tests.{ltb-true, ltb-false}
 use Rattle.rules.specs.Basics.{pick, tabulate}
 use Rattle.rules.specs.Rows.{table_of, entry}
-use Rattle.laws.proofs.Lists.{length-tabulate}
 use Rattle.tally.specs.declared.NamedColumns.{NamedColumns}
 use Rattle.tally.specs.Table.{cell_of}
 use Rattle.tally.specs.Counting.{one_more, up, all_up, cell_in, cells_in, RowAt, Countable}

@@ -1,5 +1,5 @@
 -- What the code that counts a report does, and what it asks: no rule of R-4, but its steps.
-use Rattle.std.specs.Prelude.{◌≡◌, List, [], ◌∷◌, ℕ, ◌+◌, ◌*◌, ◌≤◌, ◌<◌, T, ltb, ℤ, pos, nat_abs, length, get_or, set}
+use Rattle.std.specs.Prelude.{List, [], ◌∷◌, ℕ, ◌+◌, ◌*◌, ◌≤◌, ◌<◌, T, ltb, ℤ, pos, nat_abs, length, get_or, set}
 use Rattle.std.specs.Int.Signed.{non_neg}
 use Rattle.rules.specs.Basics.{pick, tabulate}
 use Rattle.rules.specs.Rows.{Table, entry}

@@ -1,5 +1,5 @@
 -- `depot_state::count_done` meets its contract by the laws of Words.
-use Rattle.depot_state.proofs.Words.{count-asks, count-is, count_long}
+use Rattle.depot_state.proofs.Words.{count-asks, count-is}
 use borrow.Author.Rules.{rules}
 use Rattle.depot_state.proofs.count_done.Goals as goal
 

@@ -1,6 +1,6 @@
 -- `depot_state::list_one` meets its contract by the laws of Words.
 use Rattle.std.proofs.Common.{rules}
-use Rattle.depot_state.proofs.Words.{no_room, some-room, second-there, state_there}
+use Rattle.depot_state.proofs.Words.{no_room, some-room, second-there}
 use Rattle.depot_state.specs.Steps.{list_with, state_with}
 use Rattle.depot_state.proofs.list_one.Goals as goal
 
