@@ -1,19 +1,19 @@
 -- The lines of the report, piece by piece: for each piece, that there is room for it behind those
 -- before it, and at the end that the whole line is written.
-use mathlib.Core.Path.{◌≡◌, refl, sym, ap, ◌∙◌}
+use mathlib.Core.Path.{◌≡◌, refl, sym, ap, ◌∙◌, subst}
 use mathlib.Core.Bool.{Bool, true, false}
 use mathlib.Core.List.{List, [], ◌∷◌, ◌++◌}
 use Prim.Native.Nat.{ℕ, suc, ◌+◌, ◌*◌, ◌-◌, ◌^◌, ◌≤◌, ◌<◌, min}
 use native.Mathlib.Nat.{suc-mul}
 use native.Mathlib.Omega.{arith}
-use lib.IntN.{ℤ, pos, nat_abs}
+use lib.IntN.{ℤ, pos, negsuc, nat_abs}
 use lib.Dec.{ltb, eqb}
 use lib.ListN.{length, take, drop, length-append, length-take, length-drop, drop_of_length-le}
 use lib.Seq.{get_or-drop, drop-drop, take_all, take-length, drop-length}
 use mir.Syntax.{w64}
-use mir.Val.{SFits}
+use mir.Val.{SFits, of_z, to_z}
 use mir.Facts.{to_z-of_z}
-use borrow.Author.Tests.{ltb-true, ltb-false, eq-eqb, ne_eqb}
+use borrow.Author.Tests.{ltb-true, ltb-false, eqb-true, eqb-false, eq-eqb, ne_eqb}
 use Rattle.rules.specs.Basics.{pick, bytes}
 use Rattle.rules.specs.Program.{decimal, signed_decimal, labels_text, refused_text}
 use Rattle.put.specs.Put.{Put}
@@ -130,38 +130,51 @@ module _ (l : List ℕ) (at : ℕ) (n : ℤ) (room : at + length (field_text n) 
 
 -- ---- labels
 
-pub no-labels : (ls : List ℕ) → length ls ≡ 0 → labels_text ls ≡ 45 ∷ []
+no-labels : (ls : List ℕ) → length ls ≡ 0 → labels_text ls ≡ 45 ∷ []
 unfolding labels_text
 no-labels [] h = refl
 no-labels (x ∷ ls) h = absurd (omega arith)
 
-pub some-labels : (ls : List ℕ) → (length ls ≡ 0 → ⊥) → labels_text ls ≡ ls
+some-labels : (ls : List ℕ) → (length ls ≡ 0 → ⊥) → labels_text ls ≡ ls
 unfolding labels_text
 some-labels [] h = absurd (h refl)
 some-labels (x ∷ ls) h = refl
 
 module _ (l : List ℕ) (at : ℕ) (ls : List ℕ) where
-  module _ (h : length ls ≡ 0) where
+  module _ (h : true ≡ eqb (length ls) 0) where
+    none : labels_text ls ≡ 45 ∷ []
+    none = no-labels ls (eqb-true (length ls) 0 (sym h))
+
     pub labels-none_room : at + length (labels_text ls) ≤ length l → at < length l
-    labels-none_room r = omega (arith, ap length (no-labels ls h))
+    labels-none_room r = omega (arith, ap length none)
 
     pub put_no_labels : (o : List ℕ) (e : ℕ) → Put l at (45 ∷ []) o e → Put l at (labels_text ls) o e
-    put_no_labels o e p = rw (no-labels ls h) p
+    put_no_labels o e p = rw none p
 
-  module _ (h : length ls ≡ 0 → ⊥) where
+  module _ (h : false ≡ eqb (length ls) 0) where
+    some : labels_text ls ≡ ls
+    some = some-labels ls (eqb-false (length ls) 0 (sym h))
+
     pub labels-room : at + length (labels_text ls) ≤ length l → at + length ls ≤ length l
-    labels-room r = omega (arith, ap length (some-labels ls h))
+    labels-room r = omega (arith, ap length some)
 
     pub put_some_labels : (o : List ℕ) (e : ℕ) → Put l at ls o e → Put l at (labels_text ls) o e
-    put_some_labels o e p = rw (some-labels ls h) p
+    put_some_labels o e p = rw some p
 
--- ---- a measure's result, where s is what the size function gave of the first number
+-- ---- a measure's result: the code tests the word of 64 bits that holds the first number
 
-module _ (l : List ℕ) (at : ℕ) (g v : ℤ) (room : at + length (result_text g v) ≤ length l) (fg : SFits w64 g) (s : ℕ) (e : s ≡ nat_abs (held g)) where
-  module _ (h : s ≡ 0) where
+is_zero : (g : ℤ) → SFits w64 g → of_z w64 g ≡ 0 → nat_abs g ≡ 0
+is_zero g f h = ap nat_abs (sym (to_z-of_z f) ∙ ap (to_z w64) h)
+
+not_zero : (g : ℤ) → (of_z w64 g ≡ 0 → ⊥) → nat_abs g ≡ 0 → ⊥
+not_zero (pos n) h e = h e
+not_zero (negsuc n) h e = absurd (omega arith)
+
+module _ (l : List ℕ) (at : ℕ) (g v : ℤ) (room : at + length (result_text g v) ≤ length l) (fg : SFits w64 g) where
+  module _ (h : of_z w64 g ≡ 0) where
     is-null : result_text g v ≡ bytes "null"
     unfolding result_text
-    is-null = simp (eq-eqb (nat_abs g) 0 (ap nat_abs (sym (to_z-of_z fg)) ∙ sym e ∙ h))
+    is-null = simp (eq-eqb (nat_abs g) 0 (is_zero g fg h))
 
     pub null_room : at + length (bytes "null") ≤ length l
     null_room = rw is-null at room
@@ -169,10 +182,10 @@ module _ (l : List ℕ) (at : ℕ) (g v : ℤ) (room : at + length (result_text 
     pub put_null : (o : List ℕ) (b : ℕ) → Put l at (bytes "null") o b → Put l at (result_text g v) o b
     put_null o b p = rw is-null p
 
-  module _ (h : s ≡ 0 → ⊥) (fv : SFits w64 v) where
+  module _ (h : of_z w64 g ≡ 0 → ⊥) (fv : SFits w64 v) where
     is_some : result_text g v ≡ signed_decimal v
     unfolding result_text
-    is_some = simp (ne_eqb (nat_abs g) 0 (λ z. h (e ∙ ap nat_abs (to_z-of_z fg) ∙ z)))
+    is_some = simp (ne_eqb (nat_abs g) 0 (not_zero g h))
 
     pub result_room : at + length (signed_decimal (held v)) ≤ length l
     result_room = rw (to_z-of_z fv) (rw is_some at room)
@@ -228,7 +241,7 @@ results_next k ns i h =
     let z : i + 0 ≡ i = omega arith in
     ap (λ (j : ℕ). results_text j (drop i ns)) e ∙ rw (get_or-drop i ns 0 (pos 0), get_or-drop i ns 1 (pos 0), drop-drop 2 i ns, z)
 
-pub results_none : (l : List ℕ) (at w : ℕ) (ns : List ℤ) (first : ℕ) → first + 2 * w ≤ length ns → at + 21 * w ≤ length l
+results_none : (l : List ℕ) (at w : ℕ) (ns : List ℤ) (first : ℕ) → first + 2 * w ≤ length ns → at + 21 * w ≤ length l
     → Resulted l at w ns first l w first at
 results_none l at w ns first h r =
     record { is = partly_none (results_text w (drop first ns)) (omega arith); within = h; long = refl; room = r; short = omega arith }
@@ -270,6 +283,19 @@ module _ (l : List ℕ) (at w : ℕ) (ns : List ℤ) (first : ℕ) (n : List ℕ
             room = s.room;
             short = omega (arith, s.short, p.ends, v.ends);
           }
+
+pub results_start : (l : List ℕ) (at w : ℕ) (ns : List ℤ) (first : ℕ) → first + 2 * w ≤ length ns → at + 21 * w ≤ length l
+    → Resulted l at w ns first l (w - 0) (first + 0) at
+results_start l at w ns first h r =
+    let a : w - 0 ≡ w = omega arith in let b : first + 0 ≡ first = omega arith in rw (a, b) (results_none l at w ns first h r)
+
+-- the same where k of w are written
+pub results_step : (l : List ℕ) (at w : ℕ) (ns : List ℤ) (first k : ℕ) (now : List ℕ) (e : ℕ)
+    → Resulted l at w ns first now (w - k - 1) (first + 2 * k + 2) e → Resulted l at w ns first now (w - (k + 1)) (first + 2 * (k + 1)) e
+results_step l at w ns first k now e s =
+    let a : w - k - 1 ≡ w - (k + 1) = omega arith in
+    let b : first + 2 * k + 2 ≡ first + 2 * (k + 1) = omega arith in
+    subst (λ (i : ℕ). Resulted l at w ns first now (w - (k + 1)) i e) b (subst (λ (j : ℕ). Resulted l at w ns first now j (first + 2 * k + 2) e) a s)
 
 -- ---- the line of a match
 
@@ -387,10 +413,23 @@ drop-least r xs = go (ltb r (length xs)) refl
         let q : min r (length xs) ≡ length xs = omega arith in
         ap (λ (j : ℕ). drop j xs) q ∙ drop-length xs ∙ sym (drop_of_length-le xs h)
 
-pub lines_none : (l : List ℕ) (at k w : ℕ) (ns : List ℤ) (ls : List ℕ) → k * (3 + 2 * w) ≤ length ns → at + (22 * (k * (3 + 2 * w)) + length ls) ≤ length l
+lines_none : (l : List ℕ) (at k w : ℕ) (ns : List ℤ) (ls : List ℕ) → k * (3 + 2 * w) ≤ length ns → at + (22 * (k * (3 + 2 * w)) + length ls) ≤ length l
     → Lined l at k w ns ls l k 0 0 at
 lines_none l at k w ns ls h r =
     record { is = partly_none (lines_text k w ns ls) (omega arith); within = omega arith; upto = omega arith; long = refl; room = omega arith }
+
+-- the same where k of k0 are written
+pub lines_start : (l : List ℕ) (at k w : ℕ) (ns : List ℤ) (ls : List ℕ) → k * (3 + 2 * w) ≤ length ns → at + (22 * (k * (3 + 2 * w)) + length ls) ≤ length l
+    → Lined l at k w ns ls l (k - 0) (0 * (3 + 2 * w)) 0 at
+lines_start l at k w ns ls h r =
+    let a : k - 0 ≡ k = omega arith in let b : 0 * (3 + 2 * w) ≡ 0 = omega arith in rw (a, b) (lines_none l at k w ns ls h r)
+
+pub lines_step : (l : List ℕ) (at k0 w : ℕ) (ns : List ℤ) (ls now : List ℕ) (k label e : ℕ)
+    → Lined l at k0 w ns ls now (k0 - k - 1) (k * (3 + 2 * w) + (3 + 2 * w)) label e → Lined l at k0 w ns ls now (k0 - (k + 1)) ((k + 1) * (3 + 2 * w)) label e
+lines_step l at k0 w ns ls now k label e s =
+    let a : k0 - k - 1 ≡ k0 - (k + 1) = omega arith in
+    let b : k * (3 + 2 * w) + (3 + 2 * w) ≡ (k + 1) * (3 + 2 * w) = omega arith in
+    subst (λ (i : ℕ). Lined l at k0 w ns ls now (k0 - (k + 1)) i label e) b (subst (λ (j : ℕ). Lined l at k0 w ns ls now j (k * (3 + 2 * w) + (3 + 2 * w)) label e) a s)
 
 module _ (l : List ℕ) (at k0 w : ℕ) (ns : List ℤ) (ls n : List ℕ) (k first label b : ℕ) (s : Lined l at k0 w ns ls n k first label b) where
   pub lines_all : k ≤ 0 → Put l at (lines_text k0 w ns ls) n b

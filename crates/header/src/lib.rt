@@ -5,48 +5,45 @@
 ghost use Rattle.std.specs.Prelude.{◌+◌, ◌≤◌, length};
 ghost use Rattle.rules.specs.Basics.{pick, bytes};
 ghost use Rattle.rules.specs.Program.{refused_text, too_large};
-ghost use Rattle.put.specs.Put.{Put};
+ghost use Rattle.put.specs.Put.{Wrote};
 ghost use Rattle.header.specs.Report.{header_text, heading};
 
-use put::{put_byte, put_bytes, put_decimal};
+use put::Out;
 
 // `refused N`
-pub fn put_refused(out: &mut [u8], at: usize, answer: u64) -> usize
-    requires { at + 29 ≤ length out.old }
-    ensures { Put out.old at (refused_text answer) out.new result }
+pub fn put_refused(out: &mut Out<'_>, answer: u64)
+    requires { out.old.at + 29 ≤ length out.old.buf.now }
+    ensures { Wrote out.old (refused_text answer) out.new }
 {
-    let number = put_bytes(out, at, b"refused ");
-    let line = put_decimal(out, number, answer);
-    put_byte(out, line, 10)
+    out.put_bytes(b"refused ");
+    out.put_decimal(answer);
+    out.put_byte(b'\n');
 }
 
 // `too large`
-pub fn put_too_large(out: &mut [u8], at: usize) -> usize
-    requires { at + 10 ≤ length out.old }
-    ensures { Put out.old at too_large out.new result }
+pub fn put_too_large(out: &mut Out<'_>)
+    requires { out.old.at + 10 ≤ length out.old.buf.now }
+    ensures { Wrote out.old too_large out.new }
 {
-    put_bytes(out, at, b"too large\n")
+    out.put_bytes(b"too large\n");
 }
 
 // `matches M steps S`, or `stopped M steps S`
-pub fn put_header(out: &mut [u8], at: usize, stopped: bool, matches: usize, steps: u64) -> usize
-    requires { at + length (header_text (heading stopped matches steps)) ≤ length out.old }
-    ensures { Put out.old at (header_text (heading stopped matches steps)) out.new result }
+pub fn put_header(out: &mut Out<'_>, stopped: bool, matches: usize, steps: u64)
+    requires { out.old.at + length (header_text (heading stopped matches steps)) ≤ length out.old.buf.now }
+    ensures { Wrote out.old (header_text (heading stopped matches steps)) out.new }
 {
-    let count = put_outcome(out, at, stopped);
-    let word = put_decimal(out, count, matches as u64);
-    let number = put_bytes(out, word, b" steps ");
-    let line = put_decimal(out, number, steps);
-    put_byte(out, line, 10)
+    put_outcome(out, stopped);
+    out.put_decimal(matches as u64);
+    out.put_bytes(b" steps ");
+    out.put_decimal(steps);
+    out.put_byte(b'\n');
 }
 
 // The header's first word.
-fn put_outcome(out: &mut [u8], at: usize, stopped: bool) -> usize
-    requires { at + 8 ≤ length out.old }
-    ensures { Put out.old at (pick stopped (bytes "stopped ") (bytes "matches ")) out.new result }
+fn put_outcome(out: &mut Out<'_>, stopped: bool)
+    requires { out.old.at + 8 ≤ length out.old.buf.now }
+    ensures { Wrote out.old (pick stopped (bytes "stopped ") (bytes "matches ")) out.new }
 {
-    if stopped {
-        return put_bytes(out, at, b"stopped ");
-    }
-    put_bytes(out, at, b"matches ")
+    out.put_bytes(if stopped { b"stopped " } else { b"matches " });
 }

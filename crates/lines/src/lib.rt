@@ -4,79 +4,68 @@
 
 ghost use Rattle.std.specs.Prelude.{◌+◌, ◌*◌, ◌≤◌, length, drop};
 ghost use Rattle.rules.specs.Program.{labels_text};
-ghost use Rattle.put.specs.Put.{Put};
+ghost use Rattle.put.specs.Put.{Wrote};
 ghost use Rattle.header.specs.Report.{field_text, result_text, results_text, line_text};
 
-use put::{put_byte, put_bytes, put_signed, size_of};
+use put::Out;
 
 // A number and one space.
-fn put_field(out: &mut [u8], at: usize, n: i64) -> usize
-    requires { at + length (field_text n) ≤ length out.old }
-    ensures { Put out.old at (field_text n) out.new result }
+fn put_field(out: &mut Out<'_>, n: i64)
+    requires { out.old.at + length (field_text n) ≤ length out.old.buf.now }
+    ensures { Wrote out.old (field_text n) out.new }
 {
-    let space = put_signed(out, at, n);
-    put_byte(out, space, 32)
+    out.put_signed(n);
+    out.put_byte(b' ');
 }
 
 // A match's labels, or `-` where it has none.
-fn put_labels(out: &mut [u8], at: usize, own: &[u8]) -> usize
-    requires { at + length (labels_text own.now) ≤ length out.old }
-    ensures { Put out.old at (labels_text own.now) out.new result }
+fn put_labels(out: &mut Out<'_>, own: &[u8])
+    requires { out.old.at + length (labels_text own.now) ≤ length out.old.buf.now }
+    ensures { Wrote out.old (labels_text own.now) out.new }
 {
-    if own.len() == 0 {
-        return put_byte(out, at, 45);
+    if own.is_empty() {
+        out.put_byte(b'-');
+    } else {
+        out.put_bytes(own);
     }
-    put_bytes(out, at, own)
 }
 
 // A measure's result, or `null` where the number before it is 0.
-fn put_result(out: &mut [u8], at: usize, given: i64, res: i64) -> usize
-    requires { at + length (result_text given res) ≤ length out.old }
-    ensures { Put out.old at (result_text given res) out.new result }
+fn put_result(out: &mut Out<'_>, given: i64, res: i64)
+    requires { out.old.at + length (result_text given res) ≤ length out.old.buf.now }
+    ensures { Wrote out.old (result_text given res) out.new }
 {
-    if size_of(given) == 0 {
-        return put_bytes(out, at, b"null");
+    if given == 0 {
+        out.put_bytes(b"null");
+    } else {
+        out.put_signed(res);
     }
-    put_signed(out, at, res)
 }
 
 // The results of the measures, whose numbers begin at index `first`.
-fn put_results(out: &mut [u8], at: usize, measures: usize, numbers: &[i64], first: usize) -> usize
+fn put_results(out: &mut Out<'_>, measures: usize, numbers: &[i64], first: usize)
     requires measures_in_bounds { first + 2 * measures ≤ length numbers.now }
-    requires out_in_bounds { at + 21 * measures ≤ length out.old }
-    ensures put { Put out.old at (results_text measures (drop first numbers.now)) out.new result }
-    ensures upper_bound { result ≤ at + 21 * measures }
+    requires out_in_bounds { out.old.at + 21 * measures ≤ length out.old.buf.now }
+    ensures put { Wrote out.old (results_text measures (drop first numbers.now)) out.new }
+    ensures upper_bound { out.new.at ≤ out.old.at + 21 * measures }
 {
-    let mut left = measures;
-    let mut i = first;
-    let mut behind = at;
-    while 0 < left {
-        let result = put_byte(out, behind, 32);
-        behind = put_result(out, result, numbers[i], numbers[i + 1]);
-        i += 2;
-        left -= 1;
+    for k in 0..measures {
+        out.put_byte(b' ');
+        put_result(out, numbers[first + 2 * k], numbers[first + 2 * k + 1]);
     }
-    behind
 }
 
 // The line of the match whose numbers begin at index `first` and whose labels are `own`.
-pub fn put_line(
-    out: &mut [u8],
-    at: usize,
-    measures: usize,
-    numbers: &[i64],
-    first: usize,
-    own: &[u8],
-) -> usize
+pub fn put_line(out: &mut Out<'_>, measures: usize, numbers: &[i64], first: usize, own: &[u8])
     requires measures_in_bounds { first + (3 + 2 * measures) ≤ length numbers.now }
-    requires own_in_bounds { at + (65 + 21 * measures + length own.now) ≤ length out.old }
-    ensures put { Put out.old at (line_text measures (drop first numbers.now) own.now) out.new result }
-    ensures upper_bound { result ≤ at + (65 + 21 * measures + length own.now) }
+    requires own_in_bounds { out.old.at + (65 + 21 * measures + length own.now) ≤ length out.old.buf.now }
+    ensures put { Wrote out.old (line_text measures (drop first numbers.now) own.now) out.new }
+    ensures upper_bound { out.new.at ≤ out.old.at + (65 + 21 * measures + length own.now) }
 {
-    let row = put_field(out, at, numbers[first]);
-    let rows = put_field(out, row, numbers[first + 1]);
-    let labels = put_field(out, rows, numbers[first + 2]);
-    let results = put_labels(out, labels, own);
-    let line = put_results(out, results, measures, numbers, first + 3);
-    put_byte(out, line, 10)
+    put_field(out, numbers[first]);
+    put_field(out, numbers[first + 1]);
+    put_field(out, numbers[first + 2]);
+    put_labels(out, own);
+    put_results(out, measures, numbers, first + 3);
+    out.put_byte(b'\n');
 }

@@ -2,11 +2,13 @@
 use mathlib.Core.Path.{◌≡◌, refl, sym, ap, ◌∙◌}
 use mathlib.Core.Bool.{Bool, true, false}
 use mathlib.Core.List.{List, [], ◌∷◌, ◌++◌, append_assoc, append-nil}
-use Prim.Native.Nat.{ℕ, zero, suc, ◌+◌, ◌-◌, ◌/◌, ◌%◌, ◌^◌, ◌≤◌, ◌<◌}
+use Prim.Native.Nat.{ℕ, zero, suc, ◌+◌, ◌*◌, ◌-◌, ◌/◌, ◌%◌, ◌^◌, ◌≤◌, ◌<◌}
 use native.Mathlib.Nat.{not-suc-le-zero}
 use native.Mathlib.Omega.{arith}
 use lib.Dec.{ltb}
 use lib.ListN.{length, set, length-append, length-set}
+use Rattle.std.specs.Prelude.{Option, Some, None, IfSome, unwrap_or}
+use Rattle.std.specs.Option.{IfNone}
 use borrow.Author.Tests.{ltb-true, ltb-false, lt-ltb, le-ltb}
 use Rattle.rules.specs.Basics.{pick, wrote}
 use Rattle.rules.specs.Program.{digits_of, decimal}
@@ -54,6 +56,15 @@ few_digits (suc k) n h = go (λ l. few_digits k (n / 10) l) (ltb n 10) refl
     go : (n / 10 < 10 ^ suc k → length (decimal (n / 10)) ≤ suc k) → (t : Bool) → ltb n 10 ≡ t → length (decimal n) ≤ suc (suc k)
     go ih true e = rw (one-digit n (ltb-true n 10 e)) (omega arith)
     go ih false e = let b = ltb-false n 10 e in let i = ih (omega arith) in omega (arith, more-digits n b)
+
+-- a number from 10 ^ k on and below the next power has k + 1 digits, and 0 has one
+as_many : (k n : ℕ) → 10 ^ k ≤ n → n < 10 * 10 ^ k → length (decimal n) ≡ k + 1
+as_many zero n g h = rw (one-digit n (omega arith))
+as_many (suc k) n g h = omega (arith, more-digits n (omega arith), as_many k (n / 10) (omega arith) (omega arith))
+
+pub digits_counted : (n : ℕ) (o : Option ℕ) → IfNone o (n ≡ 0) → IfSome o (λ k. 10 ^ k ≤ n) → IfSome o (λ k. n < 10 * 10 ^ k) → unwrap_or o 0 + 1 ≡ length (decimal n)
+digits_counted n None z a b = rw (one-digit n (omega arith))
+digits_counted n (Some k) z a b = sym (as_many k n a b)
 
 -- ---- digits written from the last to the first
 
@@ -114,3 +125,34 @@ module _ (l : List ℕ) (at n : ℕ) where
         ends = e;
         within = omega arith;
       }
+
+-- the digits from i on stand in the buffer, and those of `rest` are left; where none is left, all do
+pub record Spelling (before : List ℕ) (at n : ℕ) (now : List ℕ) (i rest : ℕ) : Type 0 where
+  pub some : at < i → Spelled before at n now (i - 1) rest
+  pub all : i ≤ at → Put before at (decimal n) now (at + length (decimal n))
+
+module _ (l : List ℕ) (at n : ℕ) where
+  pub spelling_none : (count : ℕ) → count ≡ length (decimal n) → at + length (decimal n) ≤ length l → Spelling l at n l (at + count) n
+  spelling_none count e h =
+      let d = some-digit n in
+      record { some = λ g. spelled_none l at n (at + count - 1) h (omega arith); all = λ g. absurd (omega arith) }
+
+  pub spelling_more : (now : List ℕ) (i rest : ℕ) → Spelling l at n now i rest → at < i → Spelling l at n (set now (i - 1) (48 + rest % 10)) (i - 1) (rest / 10)
+  spelling_more now i rest s g = go (ltb rest 10) refl
+    where
+      w : Spelled l at n now (i - 1) rest
+      w = s.some g
+
+      go : (t : Bool) → ltb rest 10 ≡ t → Spelling l at n (set now (i - 1) (48 + rest % 10)) (i - 1) (rest / 10)
+      go true e =
+          let h = ltb-true rest 10 e in
+          let d : length (decimal rest) ≡ 1 = ap length (one-digit rest h) in
+          let u = w.here in
+          let r : rest % 10 ≡ rest = omega arith in
+          record { some = λ q. absurd (omega arith); all = λ q. rw r (spelled_all l at n now (i - 1) rest (at + length (decimal n)) w h refl) }
+      go false e =
+          let h = ltb-false rest 10 e in
+          let m = more-digits rest h in
+          let d = some-digit (rest / 10) in
+          let u = w.here in
+          record { some = λ q. spelled_more l at n now (i - 1) rest w h; all = λ q. absurd (omega arith) }

@@ -1,16 +1,15 @@
 -- A signed number as a sign and a size, and its decimal text.
-use mathlib.Core.Path.{◌≡◌, refl, sym, ap, ◌∙◌, subst}
+use mathlib.Core.Path.{◌≡◌, refl, sym, ap, ◌∙◌}
 use mathlib.Core.Bool.{Bool, true, false}
 use mathlib.Core.List.{List, [], ◌∷◌}
-use Prim.Native.Nat.{ℕ, zero, suc, ◌+◌, ◌-◌, ◌≤◌, ◌<◌}
+use Prim.Native.Nat.{ℕ, suc, ◌+◌, ◌≤◌, ◌<◌}
 use native.Mathlib.Omega.{arith}
-use lib.Dec.{T}
-use lib.IntN.{ℤ, pos, negsuc, ◌+ℤ◌, ◌-ℤ◌, nat_abs, neg_ℤ}
-use lib.Signed.{mag, lt_z, non_neg}
+use lib.IntN.{ℤ, pos, negsuc, nat_abs}
+use lib.Signed.{mag, lt_z}
 use mir.Syntax.{w64}
-use mir.Val.{SFits, Fits, to_z, of_z}
+use mir.Val.{SFits, to_z, of_z}
 use mir.Facts.{to_z-of_z}
-use borrow.Author.Tests.{lt-ltb, ltb-true}
+use borrow.Author.Tests.{ltb-true}
 use lib.ListN.{length}
 use Rattle.rules.specs.Program.{decimal, signed_decimal}
 use Rattle.put.specs.Put.{Put}
@@ -21,19 +20,6 @@ use Rattle.put.proofs.Writing.{put_both, put_long}
 abbrev pub held : ℤ → ℤ
 held n = to_z w64 (of_z w64 n)
 
--- n + 1 of a negative n
-plus_one : (k : ℕ) → negsuc k +ℤ pos 1 ≡ neg_ℤ (pos k)
-plus_one zero = refl
-plus_one (suc j) = simp (lt-ltb 1 (suc (suc j)) (omega arith)) (ap negsuc (let e : suc (suc j) - 2 ≡ j = omega arith in e))
-
-neg-neg : (k : ℕ) → pos 0 -ℤ neg_ℤ (pos k) ≡ pos k
-neg-neg zero = refl
-neg-neg (suc j) = ap pos (let e : 0 + suc j ≡ suc j = omega arith in e)
-
-mag-neg : (k : ℕ) → mag (neg_ℤ (pos k)) ≤ k
-mag-neg zero = omega arith
-mag-neg (suc j) = omega arith
-
 -- a test of a signed number is of what its bits stand for
 pub tested : (n : ℤ) (b : Bool) → SFits w64 n → lt_z (held n) (pos 0) ≡ b → lt_z n (pos 0) ≡ b
 tested n b f e = ap (λ (z : ℤ). lt_z z (pos 0)) (sym (to_z-of_z f)) ∙ e
@@ -42,49 +28,7 @@ is-negsuc : (n : ℤ) → lt_z n (pos 0) ≡ true → n ≡ negsuc (mag n)
 is-negsuc (pos k) e = absurd (omega (arith, ltb-true k 0 e))
 is-negsuc (negsuc k) e = refl
 
--- the steps of `(-(n + 1)) as u64 + 1` for a number below 0
-module _ (n : ℤ) (f : SFits w64 n) (t : lt_z (held n) (pos 0) ≡ true) where
-  m : lt_z n (pos 0) ≡ true
-  m = tested n true f t
-
-  up : held n +ℤ pos 1 ≡ neg_ℤ (pos (mag n))
-  up = ap (λ (z : ℤ). z +ℤ pos 1) (to_z-of_z f ∙ is-negsuc n m) ∙ plus_one (mag n)
-
-  small : SFits w64 (neg_ℤ (pos (mag n)))
-  small = let g = f.sfits in record { sfits = omega (arith, mag-neg (mag n)) }
-
-  pub up_fits : SFits w64 (held n +ℤ pos 1)
-  up_fits = subst (SFits w64) (sym up) small
-
-  size_is : pos 0 -ℤ held (held n +ℤ pos 1) ≡ pos (mag n)
-  size_is = ap (λ (z : ℤ). pos 0 -ℤ held z) up ∙ ap (λ (z : ℤ). pos 0 -ℤ z) (to_z-of_z small) ∙ neg-neg (mag n)
-
-  pos-fits : SFits w64 (pos (mag n))
-  pos-fits = record { sfits = f.sfits }
-
-  pub size_fits : SFits w64 (pos 0 -ℤ held (held n +ℤ pos 1))
-  size_fits = subst (SFits w64) (sym size_is) pos-fits
-
-  back : held (pos 0 -ℤ held (held n +ℤ pos 1)) ≡ pos (mag n)
-  back = to_z-of_z size_fits ∙ size_is
-
-  pub size-cast : T (non_neg (held (pos 0 -ℤ held (held n +ℤ pos 1)))) × Fits w64 (nat_abs (held (pos 0 -ℤ held (held n +ℤ pos 1))))
-  size-cast = subst (λ (z : ℤ). T (non_neg z) × Fits w64 (nat_abs z)) (sym back) (tt, record { fits = let g = f.sfits in omega arith })
-
-  pub size-more : Fits w64 (nat_abs (held (pos 0 -ℤ held (held n +ℤ pos 1))) + 1)
-  size-more = subst (λ (z : ℤ). Fits w64 (nat_abs z + 1)) (sym back) (record { fits = let g = f.sfits in omega arith })
-
-  pub size-all : nat_abs (held (pos 0 -ℤ held (held n +ℤ pos 1))) + 1 ≡ nat_abs n
-  size-all = ap (λ (z : ℤ). nat_abs z + 1) back ∙ (let e : mag n + 1 ≡ suc (mag n) = omega arith in e) ∙ ap nat_abs (sym (is-negsuc n m))
-
 module _ (n : ℤ) (f : SFits w64 n) where
-  pub at-least_zero : lt_z (held n) (pos 0) ≡ false → T (non_neg (held n)) × Fits w64 (nat_abs (held n))
-  at-least_zero t = subst (λ (z : ℤ). T (non_neg z) × Fits w64 (nat_abs z)) (sym (to_z-of_z f)) (by n f (tested n false f t))
-    where
-      by : (n : ℤ) → SFits w64 n → lt_z n (pos 0) ≡ false → T (non_neg n) × Fits w64 (nat_abs n)
-      by (pos k) f e = (tt, record { fits = let g = f.sfits in omega arith })
-      by (negsuc k) f e = absurd (let z : ◌≡◌ {A = ℕ} 0 1 = cc in omega arith)
-
   pub size-kept : nat_abs (held n) ≡ nat_abs n
   size-kept = ap nat_abs (to_z-of_z f)
 

@@ -5,8 +5,9 @@ use Prim.Native.Nat.{ℕ, suc, ◌+◌, ◌-◌, ◌≤◌, ◌<◌}
 use native.Mathlib.Omega.{arith}
 use native.Mathlib.Numerals.{add-one}
 use native.Mathlib.Nat.{add-zero}
-use lib.ListN.{length, get_or, set, take, drop, length-append, length-set, length-take, length-drop, take-append-drop}
-use lib.Seq.{set_at, take_at, drop_at, drop-drop, length-take-le, take-suc, take-length, paste, paste-zero, paste-suc}
+use lib.ListN.{length, get_or, set, take, drop, length-append, length-take, length-drop, take-append-drop}
+use lib.Seq.{set_at, take_at, drop_at, drop-drop, length-take-le, take-suc}
+use borrow.Rule.Slice.PartMut.{put_mid}
 use Rattle.rules.specs.Basics.{wrote}
 use Rattle.put.specs.Put.{Put}
 
@@ -72,39 +73,13 @@ put_both l at xs m b ys o e p q =
       within = omega arith;
     }
 
--- ---- a loop that copies: the first i bytes are written
-
-pub record Copied (d : List ℕ) (at : ℕ) (s l : List ℕ) (i : ℕ) : Type 0 where
-  pub room : at + length s ≤ length d
-  pub upto : i ≤ length s
-  pub long : length l ≡ length d
-  pub is : l ≡ paste d at s i
-
-module _ (d : List ℕ) (at : ℕ) (s : List ℕ) where
-  pub copied_none : at + length s ≤ length d → Copied d at s d 0
-  copied_none h = record { room = h; upto = omega arith; long = refl; is = paste-zero d at s }
-
-  pub copied_more : (l : List ℕ) (i : ℕ) → Copied d at s l i → i < length s → Copied d at s (set l (at + i) (get_or s i 0)) (i + 1)
-  copied_more l i h lt =
-      record {
-        room = h.room;
-        upto = omega arith;
-        long = length-set l (at + i) (get_or s i 0) ∙ h.long;
-        is = ap (λ (x : List ℕ). set x (at + i) (get_or s i 0)) h.is ∙ paste-suc d at s i 0 (let g = h.room in omega arith) lt ∙ ap (paste d at s) (sym (add-one i));
-      }
-
-  pub copied_all : (l : List ℕ) (i : ℕ) → Copied d at s l i → length s ≤ i → Put d at s l (at + length s)
-  unfolding wrote
-  copied_all l i h le =
-      record {
-        holds =
-            h.is
-            ∙ ap (paste d at s) (let e : i ≡ length s = omega arith in e)
-            ∙ ap (λ (x : List ℕ). take at d ++ x ++ drop (at + length s) d) (take-length s)
-            ∙ append_assoc (take at d) s (drop (at + length s) d);
-        ends = refl;
-        within = h.room;
-      }
+-- a text that is copied into its part of the buffer
+pub put_part : (l : List ℕ) (at : ℕ) (text new : List ℕ) → at + length text ≤ length l → new ≡ text → Put l at text (put_mid at (at + length text - at) l new) (at + length text)
+unfolding wrote
+put_part l at text new h e =
+    let k : at + length text - at ≡ length text = omega arith in
+    let d : drop (at + length text - at) (drop at l) ≡ drop (at + length text) l = rw k (drop-drop (length text) at l) in
+    record { holds = rw (e, d); ends = refl; within = h }
 
 -- ---- a text of several pieces: those written so far, and those that are left
 

@@ -1,84 +1,78 @@
-// Bytes, words and numbers in decimal, written into a lent buffer from an index on: each function
-// asks for room for its text, the buffer is otherwise as it was, and the result is the index behind
-// the text (specs/Put). A number of 64 bits takes at most 20 bytes, with its sign (proofs/Signed).
+// Bytes, words and numbers in decimal, written into a lent buffer one behind the other: each method
+// of `Out` asks for room for its text, writes it behind what is written, and leaves the buffer
+// otherwise as it was (specs/Put). A number of 64 bits takes at most 20 bytes, with its sign
+// (proofs/Signed).
 #![tactic(auto)]
 
-ghost use Rattle.std.specs.Prelude.{◌≡◌, [], ◌∷◌, ◌+◌, ◌^◌, ◌≤◌, ◌<◌, length, nat_abs};
+ghost use Rattle.std.specs.Prelude.{◌≡◌, [], ◌∷◌, ◌+◌, ◌≤◌, ◌<◌, length};
 ghost use Rattle.rules.specs.Program.{decimal, signed_decimal};
-ghost use Rattle.put.specs.Put.{Put};
+ghost use Rattle.put.specs.Put.{Put, Wrote};
 
-// Writes one byte.
-pub fn put_byte(out: &mut [u8], at: usize, b: u8) -> usize
-    requires { at < length out.old }
-    ensures { Put out.old at (b ∷ []) out.new result }
-{
-    out[at] = b;
-    at + 1
+// A lent buffer, and the index behind what is written into it.
+#[derive(Drop)]
+pub struct Out<'a> {
+    pub buf: &'a mut [u8],
+    pub at: usize,
 }
 
-// Writes the bytes of a text.
-pub fn put_bytes(out: &mut [u8], at: usize, text: &[u8]) -> usize
-    requires { at + length text.now ≤ length out.old }
-    ensures { Put out.old at text.now out.new result }
+// How many digits n has.
+fn digit_count(n: u64) -> usize
+    ensures { result ≡ length (decimal n) }
 {
-    let mut i = 0;
-    while i < text.len() {
-        out[at + i] = text[i];
-        i += 1;
-    }
-    at + text.len()
+    n.checked_ilog10().unwrap_or(0) as usize + 1
 }
 
-// The index behind the digits of n, the first of which is at `at`.
-fn behind_digits(at: usize, n: u64) -> usize
-    requires { at + length (decimal n) < 2 ^ 64 }
-    ensures { result ≡ at + length (decimal n) }
+// Writes n in decimal from an index on, from the last digit to the first; the result is the index
+// behind them. std's `write!` of a number asks for a writer that may fail, and this one does not.
+fn put_digits(buf: &mut [u8], at: usize, n: u64) -> usize
+    requires { at + length (decimal n) ≤ length buf.old }
+    ensures { Put buf.old at (decimal n) buf.new result }
 {
-    let mut behind = at + 1;
-    let mut left = n;
-    while 10 <= left {
-        left /= 10;
-        behind += 1;
-    }
-    behind
-}
-
-// Writes n in decimal: the digits are counted first, and then written from the last to the first.
-pub fn put_decimal(out: &mut [u8], at: usize, n: u64) -> usize
-    requires { at + length (decimal n) ≤ length out.old }
-    ensures { Put out.old at (decimal n) out.new result }
-{
-    let behind = behind_digits(at, n);
-    let mut i = behind - 1;
+    let behind = at + digit_count(n);
     let mut rest = n;
-    while 10 <= rest {
-        out[i] = 48 + (rest % 10) as u8;
+    for i in (at..behind).rev() {
+        buf[i] = b'0' + (rest % 10) as u8;
         rest /= 10;
-        i -= 1;
     }
-    out[i] = 48 + rest as u8;
     behind
 }
 
-// The size of a number without its sign, the lowest too, whose size is no i64.
-pub fn size_of(n: i64) -> u64
-    ensures { result ≡ nat_abs n }
-{
-    if n < 0 {
-        (-(n + 1)) as u64 + 1
-    } else {
-        n as u64
+impl Out<'_> {
+    // Writes one byte.
+    pub fn put_byte(&mut self, b: u8)
+        requires { self.old.at < length self.old.buf.now }
+        ensures { Wrote self.old (b ∷ []) self.new }
+    {
+        self.buf[self.at] = b;
+        self.at += 1;
     }
-}
 
-// Writes n in decimal, with a minus in front where it is below 0.
-pub fn put_signed(out: &mut [u8], at: usize, n: i64) -> usize
-    requires { at + length (signed_decimal n) ≤ length out.old }
-    ensures { Put out.old at (signed_decimal n) out.new result }
-{
-    if n < 0 {
-        let digits = put_byte(out, at, 45);
-        return put_decimal(out, digits, size_of(n));
+    // Writes the bytes of a text.
+    pub fn put_bytes(&mut self, text: &[u8])
+        requires { self.old.at + length text.now ≤ length self.old.buf.now }
+        ensures { Wrote self.old text.now self.new }
+    {
+        let behind = self.at + text.len();
+        self.buf[self.at..behind].copy_from_slice(text);
+        self.at = behind;
     }
-    put_decimal(out, at, size_of(n))
+
+    // Writes n in decimal.
+    pub fn put_decimal(&mut self, n: u64)
+        requires { self.old.at + length (decimal n) ≤ length self.old.buf.now }
+        ensures { Wrote self.old (decimal n) self.new }
+    {
+        self.at = put_digits(self.buf, self.at, n);
+    }
+
+    // Writes n in decimal, with a minus in front where it is below 0.
+    pub fn put_signed(&mut self, n: i64)
+        requires { self.old.at + length (signed_decimal n) ≤ length self.old.buf.now }
+        ensures { Wrote self.old (signed_decimal n) self.new }
+    {
+        if n < 0 {
+            self.put_byte(b'-');
+        }
+        self.put_decimal(n.unsigned_abs());
+    }
 }

@@ -34,7 +34,8 @@ use Rattle.laws.proofs.FirstTrue.{all_refuse, first-after, none_before, none_tru
 use Rattle.laws.proofs.Limits.{limits, numbers_long}
 use Rattle.reading.specs.declared.Size.{Size}
 use Rattle.reading.specs.Reading.{as_room}
-use Rattle.put.specs.Put.{Put}
+use Rattle.put.specs.declared.Out.{Out}
+use Rattle.put.specs.Put.{Wrote}
 use Rattle.input.specs.declared.Verdict.{Verdict}
 use Rattle.input.specs.declared.Verdict.TheVariants.{Refused, TooLarge, Search}
 use Rattle.input.specs.Verdict.{input_verdict, printed_verdict}
@@ -179,16 +180,16 @@ module _ (q r : List ℕ) (l array : List ℤ) (k : ℕ) (filled : array ≡ wro
       printed-verdict q r ∙ ap (λ (u : Verdict). printed_verdict u q r) (sym i ∙ h)
 
   -- what is written into the buffer o is the text of the way that is taken
-  module _ (o m : List ℕ) (b : ℕ) where
-    pub query_refused : (a : ℕ) → v ≡ Refused a → Put o 0 (refused_text a) m b → Put o 0 (printed_for q r) m b
+  module _ (o m : Out) where
+    pub query_refused : (a : ℕ) → v ≡ Refused a → Wrote o (refused_text a) m → Wrote o (printed_for q r) m
     unfolding printed_verdict
     query_refused a h p = rw (prints (Refused a) h) p
 
-    pub query_large : v ≡ TooLarge → Put o 0 too_large m b → Put o 0 (printed_for q r) m b
+    pub query_large : v ≡ TooLarge → Wrote o too_large m → Wrote o (printed_for q r) m
     unfolding printed_verdict
     query_large h p = rw (prints TooLarge h) p
 
-    pub query_searched : v ≡ Search → Put o 0 (search_text (task_of q (take k array)) (walked (task_of q (take k array)) 8192 65536)) m b → Put o 0 (printed_for q r) m b
+    pub query_searched : v ≡ Search → Wrote o (search_text (task_of q (take k array)) (walked (task_of q (take k array)) 8192 65536)) m → Wrote o (printed_for q r) m
     unfolding printed_verdict
     query_searched h p = rw (prints Search h) (rw (same r l array k filled counted) at p)
 

@@ -10,7 +10,6 @@ use lib.Dec.{eqb}
 use lib.IntN.{ℤ}
 use lib.ListN.{length, take, drop, length-take, length-drop}
 use lib.Seq.{take_all}
-use Rattle.rules.specs.Query.{parts}
 use Rattle.rules.specs.Answers.{task_of, walked, Buffers, Memory, refusal, search_of}
 use Rattle.rules.specs.Program.{refused_text, too_large, search_text, printed_for, printed}
 use Rattle.laws.proofs.Lists.{length-tabulate}
@@ -22,8 +21,9 @@ use Rattle.outcome.specs.Results.{lent, memory}
 use Rattle.search.specs.Promise.{Promised}
 use Rattle.input.specs.declared.Input.{Input}
 use Rattle.input.specs.declared.Input.TheVariants.{Refused, TooLarge, Go}
-use Rattle.input.specs.Input.{input_of, printed_input}
-use Rattle.put.specs.Put.{Put}
+use Rattle.input.specs.Input.{most_read, input_of, printed_input}
+use Rattle.put.specs.declared.Out.{Out}
+use Rattle.put.specs.Put.{Wrote}
 use Rattle.header.specs.Report.{report_text, heading}
 use Rattle.input.proofs.Inputs.{Parted, parted, printed-input, prefix_decides}
 use Rattle.put.proofs.Writing.{put_long}
@@ -71,14 +71,15 @@ module _ (q : List ℕ) (rows : List ℤ) (f : Found q rows) (notes' trail' : Li
       ≡ search_text (task_of q rows) (walked (task_of q rows) 8192 65536)
   report-is M e n l = rw (e, measures) (search_printed q rows L accepts n l)
 
-  pub report-put : length numbers' ≡ 8192 → length labels' ≡ 65536 → (o m : List ℕ) (b : ℕ)
-      → Put o 0 (report_text (heading (not (eqb r.answer 0)) r.matches r.steps) k numbers labels) m b → Put o 0 (search_text (task_of q rows) (walked (task_of q rows) 8192 65536)) m b
-  report-put n l o m b w = rw (← (report-is _ whole n l)) w
+  pub report-put : length numbers' ≡ 8192 → length labels' ≡ 65536 → (o m : Out)
+      → Wrote o (report_text (heading (not (eqb r.answer 0)) r.matches r.steps) k numbers labels) m → Wrote o (search_text (task_of q rows) (walked (task_of q rows) 8192 65536)) m
+  report-put n l o m w = rw (← (report-is _ whole n l)) w
 
 -- ---- the whole input
 
-ran : (s l m : List ℕ) (b : ℕ) (t : List ℕ) → printed s ≡ t → Put l 0 t m b → ProgramRan s l m b
-ran s l m b t e p = record { text = rw e p; enough = λ u h. prefix_decides u ∙ ap printed h }
+-- the first bytes decide
+pub decided : (s t : List ℕ) → take most_read t ≡ s → printed t ≡ printed s
+decided s t h = prefix_decides t ∙ ap printed h
 
 module _ (s : List ℕ) (i : Input) (given : i ≡ input_of s) where
   case : (j : Input) → i ≡ j → printed s ≡ printed_input j s
@@ -88,19 +89,19 @@ module _ (s : List ℕ) (i : Input) (given : i ≡ input_of s) where
   pub case_parted : (rows : ℕ) → i ≡ Go rows → Parted s rows
   case_parted rows h = parted s rows (sym given ∙ h)
 
-  pub ran_refused : (l m : List ℕ) (b a : ℕ) → i ≡ Refused a → Put l 0 (refused_text a) m b → ProgramRan s l m b
+  pub ran_refused : (o m : Out) (a : ℕ) → i ≡ Refused a → Wrote o (refused_text a) m → Wrote o (printed s) m
   unfolding printed_input
-  ran_refused l m b a h p = ran s l m b (refused_text a) (case (Refused a) h) p
+  ran_refused o m a h p = rw (case (Refused a) h) p
 
-  pub ran_large : (l m : List ℕ) (b : ℕ) → i ≡ TooLarge → Put l 0 too_large m b → ProgramRan s l m b
+  pub ran_large : (o m : Out) → i ≡ TooLarge → Wrote o too_large m → Wrote o (printed s) m
   unfolding printed_input
-  ran_large l m b h p = ran s l m b too_large (case TooLarge h) p
+  ran_large o m h p = rw (case TooLarge h) p
 
-  pub ran_query : (l m : List ℕ) (b rows : ℕ) → i ≡ Go rows → Put l 0 (printed_for (take (rows - 2) (drop 2 s)) (take (length s - rows) (drop rows s))) m b → ProgramRan s l m b
+  pub ran_query : (o m : Out) (rows : ℕ) → i ≡ Go rows → Wrote o (printed_for (take (rows - 2) (drop 2 s)) (take (length s - rows) (drop rows s))) m → Wrote o (printed s) m
   unfolding printed_input
-  ran_query l m b rows h p =
+  ran_query o m rows h p =
       let w : take (length s - rows) (drop rows s) ≡ drop rows s = take_all (length s - rows) (drop rows s) (simp length-drop (omega arith)) in
-      ran s l m b _ (case (Go rows) h) (rw w at p)
+      rw (case (Go rows) h) (rw w at p)
 
 -- the text lies within the buffer, and is all that is counted
 module _ (s l m : List ℕ) (b : ℕ) (r : ProgramRan s l m b) where

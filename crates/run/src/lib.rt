@@ -5,11 +5,13 @@
 // number of its measures, by which the report's numbers are parted.
 #![tactic(auto)]
 
-ghost use Rattle.std.specs.Prelude.{◌≤◌, length};
+ghost use Rattle.std.specs.Prelude.{◌+◌, ◌≤◌, length};
 ghost use Rattle.rules.specs.Answers.{task_of, walked};
-ghost use Rattle.rules.specs.Program.{search_text, printed_for};
-ghost use Rattle.put.specs.Put.{Put};
+ghost use Rattle.rules.specs.Program.{search_text, printed_for, printed};
+ghost use Rattle.put.specs.Put.{Wrote};
 ghost use Rattle.run.specs.Run.{MeasureCount, Found, ProgramRan};
+
+use put::Out;
 
 // How many measures a query with no answer 1 to 9 has.
 fn measures_of(query: &[u8]) -> usize
@@ -24,10 +26,10 @@ fn measures_of(query: &[u8]) -> usize
 
 // The search of a query and rows that are not refused and have at most 16,000 pairs, and its report
 // as text.
-fn run_search(query: &[u8], rows: &[i32], out: &mut [u8]) -> usize
+fn run_search(query: &[u8], rows: &[i32], out: &mut Out<'_>)
     requires found { Found query.now rows.now }
-    requires in_bounds { 245820 ≤ length out.old }
-    ensures { Put out.old 0 (search_text (task_of query.now rows.now) (walked (task_of query.now rows.now) 8192 65536)) out.new result }
+    requires in_bounds { out.old.at + 245820 ≤ length out.old.buf.now }
+    ensures { Wrote out.old (search_text (task_of query.now rows.now) (walked (task_of query.now rows.now) 8192 65536)) out.new }
 {
     let mut notes = [0u8; 2000];
     let mut trail = [0u32; 16000];
@@ -44,22 +46,21 @@ fn run_search(query: &[u8], rows: &[i32], out: &mut [u8]) -> usize
     let measures = measures_of(query);
     text::put_report(
         out,
-        0,
         end.answer != 0,
         end.matches,
         end.steps as u64,
         measures,
         &numbers,
         &labels,
-    )
+    );
 }
 
 // A query and its row bytes, by the verdict on them. Where there is an answer, `room` says 0 places
 // and 0 rows, so the number of pairs can be computed first.
-fn run_query(query: &[u8], bytes: &[u8], out: &mut [u8]) -> usize
+fn run_query(query: &[u8], bytes: &[u8], out: &mut Out<'_>)
     requires bytes_len_bound { length bytes.now ≤ 32768 }
-    requires in_bounds { 245820 ≤ length out.old }
-    ensures { Put out.old 0 (printed_for query.now bytes.now) out.new result }
+    requires in_bounds { out.old.at + 245820 ≤ length out.old.buf.now }
+    ensures { Wrote out.old (printed_for query.now bytes.now) out.new }
 {
     let mut rows = [0i32; 8192];
     let count = input::rows_of(bytes, &mut rows);
@@ -67,22 +68,31 @@ fn run_query(query: &[u8], bytes: &[u8], out: &mut [u8]) -> usize
     let pairs = size.places * size.factor * (size.rows + 1);
     let verdict = input::verdict_of(size.answer, bytes.len(), pairs);
     match verdict {
-        input::Verdict::Refused(answer) => header::put_refused(out, 0, answer),
-        input::Verdict::TooLarge => header::put_too_large(out, 0),
+        input::Verdict::Refused(answer) => header::put_refused(out, answer),
+        input::Verdict::TooLarge => header::put_too_large(out),
         input::Verdict::Search => run_search(query, &rows[..count], out),
     }
 }
 
-// What the program prints of an input, into the front of `out`; the result is how many bytes that
-// is.
+// What the program prints of an input.
+fn put_printed(input: &[u8], out: &mut Out<'_>)
+    requires { out.old.at + 245820 ≤ length out.old.buf.now }
+    ensures { Wrote out.old (printed input.now) out.new }
+{
+    let case = input::input_of(input);
+    match case {
+        input::Input::Refused(answer) => header::put_refused(out, answer),
+        input::Input::TooLarge => header::put_too_large(out),
+        input::Input::Go { rows } => run_query(&input[2..rows], &input[rows..], out),
+    }
+}
+
+// The same, into the front of `out`; the result is how many bytes that is.
 pub fn run(input: &[u8], out: &mut [u8]) -> usize
     requires { 245820 ≤ length out.old }
     ensures { ProgramRan input.now out.old out.new result }
 {
-    let case = input::input_of(input);
-    match case {
-        input::Input::Refused(answer) => header::put_refused(out, 0, answer),
-        input::Input::TooLarge => header::put_too_large(out, 0),
-        input::Input::Go { rows } => run_query(&input[2..rows], &input[rows..], out),
-    }
+    let mut text = Out { buf: out, at: 0 };
+    put_printed(input, &mut text);
+    text.at
 }

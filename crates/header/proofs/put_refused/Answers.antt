@@ -1,16 +1,16 @@
 -- `put_refused` writes its line piece by piece, by the laws of proofs/Lines.
-use borrow.Author.Rules.{rules}
+use Rattle.std.proofs.Common.{rules}
 use Rattle.rules.specs.Basics.{bytes}
 use Rattle.header.proofs.Lines.{refused_room_lem, refused-room_1, refused-room_2, put_refusal}
 use Rattle.header.proofs.put_refused.Goals as goal
 
-pub put_bytes-number-requires : goal.put_bytes-number-requires
+pub put_bytes-requires : goal.put_bytes-requires
 unfolding bytes
-put_bytes-number-requires c = search (rules, refused_room_lem)
+put_bytes-requires c = search (rules, refused_room_lem)
 
-pub put_decimal-line-requires : goal.put_decimal-line-requires
+pub put_decimal-requires : goal.put_decimal-requires
 unfolding bytes
-put_decimal-line-requires c = search (rules, refused-room_1)
+put_decimal-requires c = search (rules, refused-room_1)
 
 pub put_byte-requires : goal.put_byte-requires
 unfolding bytes
@@ -18,4 +18,4 @@ put_byte-requires c = search (rules, refused-room_2)
 
 pub returns : goal.returns
 unfolding bytes
-returns c = search (rules, put_refusal)
+returns c = record { same = cc; put = search (rules, put_refusal) }

@@ -1,5 +1,5 @@
 -- `put_too_large` writes its line.
-use borrow.Author.Rules.{rules}
+use Rattle.std.proofs.Common.{rules}
 use Rattle.rules.specs.Program.{too_large}
 use Rattle.header.proofs.put_too_large.Goals as goal
 

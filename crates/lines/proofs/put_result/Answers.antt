@@ -1,5 +1,5 @@
 -- `put_result` writes a measure's result, or `null`.
-use borrow.Author.Rules.{rules}
+use Rattle.std.proofs.Common.{rules}
 use Rattle.rules.specs.Basics.{bytes}
 use Rattle.header.proofs.Lines.{null_room, put_null, result_room, put_some}
 use Rattle.lines.proofs.put_result.Goals as goal
@@ -8,12 +8,12 @@ pub put_bytes-requires : goal.put_bytes-requires
 unfolding bytes
 put_bytes-requires c = search (rules, null_room)
 
-pub returns-then-size_of-eq0 : goal.returns-then-size_of-eq0
+pub returns-then-given-eq0 : goal.returns-then-given-eq0
 unfolding bytes
-returns-then-size_of-eq0 c = search (rules, put_null)
+returns-then-given-eq0 c = record { same = cc; put = search (rules, put_null) }
 
 pub put_signed-requires : goal.put_signed-requires
 put_signed-requires c = search (rules, result_room)
 
-pub returns : goal.returns
-returns c = search (rules, put_some)
+pub returns-else-given-eq0 : goal.returns-else-given-eq0
+returns-else-given-eq0 c = record { same = cc; put = search (rules, put_some) }

@@ -1,45 +1,21 @@
--- `put_results` writes the results of the measures: those left are as many as the loop has still to
--- write (`Resulted`).
-use native.Mathlib.Omega.{arith}
-use borrow.Author.Rules.{rules}
-use Rattle.header.proofs.Lines.{Resulted, results_none, results_all, results_room, results_room_1, results_more}
+-- `put_results` writes the results of the measures, by the laws of proofs/Lines.
+use Rattle.std.proofs.Common.{refl, arith, rules}
+use Rattle.header.proofs.Lines.{results_start, results_all, results_room_1, results_more, results_step}
 use Rattle.lines.proofs.put_results.Goals as goal
 
-pub loop-left-init : goal.loop-left-init
-loop-left-init c = search (rules, results_none)
+pub loop-k-init : goal.loop-k-init
+loop-k-init c = record { same = refl; put = results_start _ _ _ _ _ c.requires.measures_in_bounds c.requires.out_in_bounds }
 
-pub put_byte-result-requires : goal.put_byte-result-requires
-put_byte-result-requires c = search (rules, results_room)
+pub put_result-requires : goal.put_result-requires
+put_result-requires c = results_room_1 _ _ _ _ _ _ _ _ _ c.loop-k.invariant.put (omega arith) _ _ c.put_byte.ensures.put (search rules) (search rules)
 
-pub offset_bounds-numbers-i : goal.offset_bounds-numbers-i
-offset_bounds-numbers-i c = omega arith
+pub loop-k-preserved : goal.loop-k-preserved
+loop-k-preserved c = record {
+  same = cc;
+  put =
+      results_step _ _ _ _ _ _ _ _
+      (results_more _ _ _ _ _ _ _ _ _ c.loop-k.invariant.put (omega arith) _ _ c.put_byte.ensures.put (search rules) (search rules) _ _ c.put_result.ensures.put);
+}
 
-pub bounds-numbers-i : goal.bounds-numbers-i
-bounds-numbers-i c = omega arith
-
-pub overflow_add-i : goal.overflow_add-i
-overflow_add-i c = omega arith
-
-pub offset_bounds-numbers-i-in-loop-left : goal.offset_bounds-numbers-i-in-loop-left
-offset_bounds-numbers-i-in-loop-left c = omega arith
-
-pub bounds-numbers-i-in-loop-left : goal.bounds-numbers-i-in-loop-left
-bounds-numbers-i-in-loop-left c = omega arith
-
-pub put_result-behind-requires : goal.put_result-behind-requires
-put_result-behind-requires c = search (rules, results_room_1)
-
-pub overflow_add-i-in-loop-left : goal.overflow_add-i-in-loop-left
-overflow_add-i-in-loop-left c = omega arith
-
-pub overflow_sub-left : goal.overflow_sub-left
-overflow_sub-left c = omega arith
-
-pub loop-left-smaller : goal.loop-left-smaller
-loop-left-smaller c = omega arith
-
-pub loop-left-preserved : goal.loop-left-preserved
-loop-left-preserved c = search (rules, results_more)
-
-pub returns : goal.returns
-returns c = search (rules, results_all)
+pub returns-clause-put : goal.returns-clause-put
+returns-clause-put c = record { same = c.loop-k.invariant.same; put = results_all _ _ _ _ _ _ _ _ _ c.loop-k.invariant.put (omega arith) }

@@ -1,12 +1,10 @@
--- `put_results` writes the results of the measures: those left are as many as the loop has still to
--- write (`Resulted`).
-use native.Mathlib.Omega.{arith}
-use borrow.Author.Rules.{rules}
-use Rattle.header.proofs.Lines.{Resulted, results_none, results_all, results_room, results_room_1, results_more}
+-- `put_results` writes the results of the measures: the first k of them are written (`Resulted`).
+use Rattle.std.proofs.Common.{◌≡◌, ◌+◌, ◌*◌, ◌-◌}
+use Rattle.header.proofs.Lines.{Resulted}
 use Rattle.lines.proofs.put_results.Given as goal
 
-abbrev pub invariant-loop-left : goal.invariant-loop-left
-invariant-loop-left l = Resulted l.initial.out l.at l.measures l.numbers l.first l.out l.left l.i l.behind
-
-abbrev pub decreases-loop-left : goal.decreases-loop-left
-decreases-loop-left l = l.left
+abbrev pub invariant-loop-k : goal.invariant-loop-k
+invariant-loop-k l = record {
+  same : l.out.buf.ghost_name ≡ l.initial.out.buf.ghost_name;
+  put : Resulted l.initial.out.buf.now l.initial.out.at l.measures l.numbers l.first l.out.buf.now (l.measures - l.k) (l.first + 2 * l.k) l.out.at;
+}

@@ -10,5 +10,5 @@ put_report-requires c = record { measures_in_bounds = search (rules, numbers-the
 
 pub returns : goal.returns
 returns c =
-    report-put _ _ c.requires.found _ _ _ _ _ _ _ _ _ c.search-end.ensures _ c.measures_of-measures.ensures (search rules) (search rules) (search rules) (search rules) _ _ _
+    report-put _ _ c.requires.found _ _ _ _ _ _ _ _ _ c.search-end.ensures _ c.measures_of-measures.ensures (search rules) (search rules) (search rules) (search rules) _ _
     c.put_report.ensures

@@ -1,62 +1,19 @@
--- `put_lines` writes the matches' lines: those left are as many as the loop has still to write
--- (`Lined`).
-use native.Mathlib.Omega.{arith}
-use borrow.Author.Rules.{rules, sfits_of}
-use Rattle.header.proofs.Lines.{Lined, lines_none, lines_all, lines_inside, lines_room, lines_more}
+-- `put_lines` writes the matches' lines, by the laws of proofs/Lines of header.
+use Rattle.std.proofs.Common.{refl, arith, rules}
+use Rattle.header.proofs.Lines.{lines_start, lines_all, lines_more, lines_step}
 use Rattle.text.proofs.put_lines.Goals as goal
 
-pub loop-left-init : goal.loop-left-init
-loop-left-init c = search (rules, lines_none)
-
-pub overflow_add-first : goal.overflow_add-first
-overflow_add-first c = omega (arith, lines_inside _ _ _ _ _ _ _ _ _ _ _ c.loop-left.invariant c.loop-left-test.true)
-
-pub offset_bounds-numbers-first : goal.offset_bounds-numbers-first
-offset_bounds-numbers-first c = omega (arith, lines_inside _ _ _ _ _ _ _ _ _ _ _ c.loop-left.invariant c.loop-left-test.true)
-
-pub bounds-numbers-first : goal.bounds-numbers-first
-bounds-numbers-first c = omega (arith, lines_inside _ _ _ _ _ _ _ _ _ _ _ c.loop-left.invariant c.loop-left-test.true)
-
-pub overflow_sub-labels : goal.overflow_sub-labels
-overflow_sub-labels c = omega arith
-
-pub overflow_add-next : goal.overflow_add-next
-overflow_add-next c = omega arith
-
-pub slice_bounds-put_line-count : goal.slice_bounds-put_line-count
-slice_bounds-put_line-count c = omega arith
-
-pub slice_bounds-put_line-start : goal.slice_bounds-put_line-start
-slice_bounds-put_line-start c = omega arith
-
-pub slice_bounds-put_line-end : goal.slice_bounds-put_line-end
-slice_bounds-put_line-end c = omega arith
-
-pub put_line-behind-requires : goal.put_line-behind-requires
-put_line-behind-requires c = record {
-  measures_in_bounds = search (rules, lines_inside);
-  own_in_bounds =
-      lines_room _ _ _ _ _ _ _ _ _ _ _ c.loop-left.invariant c.loop-left-test.true _ _ (sfits_of c.size_of-arg-1.given)
-      c.size_of.ensures c.least.ensures;
-}
-
-pub overflow_mul-first : goal.overflow_mul-first
-overflow_mul-first c = omega (arith, lines_inside _ _ _ _ _ _ _ _ _ _ _ c.loop-left.invariant c.loop-left-test.true)
-
-pub overflow_add-first-in-loop-left : goal.overflow_add-first-in-loop-left
-overflow_add-first-in-loop-left c = omega (arith, lines_inside _ _ _ _ _ _ _ _ _ _ _ c.loop-left.invariant c.loop-left-test.true)
-
-pub overflow_add-first-in-loop-left-2 : goal.overflow_add-first-in-loop-left-2
-overflow_add-first-in-loop-left-2 c = omega (arith, lines_inside _ _ _ _ _ _ _ _ _ _ _ c.loop-left.invariant c.loop-left-test.true)
-
-pub overflow_sub-left : goal.overflow_sub-left
-overflow_sub-left c = omega arith
-
-pub loop-left-smaller : goal.loop-left-smaller
-loop-left-smaller c = omega arith
-
-pub loop-left-preserved : goal.loop-left-preserved
-loop-left-preserved c = search (rules, lines_more)
+pub loop-k-init : goal.loop-k-init
+loop-k-init c = record { same = refl; put = lines_start _ _ _ _ _ _ c.requires.measures_in_bounds c.requires.labels_in_bounds }
 
 pub returns : goal.returns
-returns c = search (rules, lines_all)
+returns c = record { same = c.loop-k.invariant.same; put = lines_all _ _ _ _ _ _ _ _ _ _ _ c.loop-k.invariant.put (omega arith) }
+
+pub loop-k-preserved : goal.loop-k-preserved
+loop-k-preserved c = record {
+  same = cc;
+  put =
+      lines_step _ _ _ _ _ _ _ _ _ _
+      (lines_more _ _ _ _ _ _ _ _ _ _ _ c.loop-k.invariant.put (omega arith) _ _ (search rules) c.unsigned_abs-rows.ensures.value (search rules)
+      _ _ c.put_line.ensures.put.put c.put_line.ensures.upper_bound);
+}
