@@ -1,7 +1,7 @@
 -- What the search of a call leaves of numbers, by the definitions alone: how it may end, that what
 -- it writes fits, and that what a later call is taken up with lies within its bounds.
 use mathlib.Core.Path.{◌≡◌, refl, ap, sym, ◌∙◌}
-use mathlib.Core.Bool.{Bool, true, false, not, true≢false}
+use mathlib.Core.Bool.{Bool, true, false, not}
 use mathlib.Core.List.{List, [], ◌∷◌, ◌++◌}
 use mathlib.Core.Option.{Option, none, some}
 use Prim.Native.Nat.{ℕ, zero, suc, ◌+◌, ◌*◌, ◌≤◌, ◌<◌}
@@ -12,10 +12,10 @@ use lib.IntN.{ℤ}
 use lib.ListN.{length, drop, replicate, length-replicate}
 use Rattle.rules.specs.Basics.{wrote}
 use Rattle.rules.specs.Walk.{Halt, out_of_steps, out_of_rows, pairs, first_at, pair_ways, Kept, as_kept}
-use Rattle.rules.specs.Search.{Match, End, done, full, stuck, unfinished, open_of, Attempted, hit, miss, halts, Swept, Plan, ended, no_start, below, with_match, Standing, stand_at, one_row_on, behind_match, on_match, on_answer, sweep, walk_at, halting_of, plan_of, walk_search}
+use Rattle.rules.specs.Search.{Match, End, done, full, stuck, unfinished, open_of, Attempted, hit, miss, halts, Swept, Plan, ended, no_start, below, Standing, stand_at, one_row_on, behind_match, on_match, on_answer, sweep, walk_at, halting_of, plan_of, walk_search}
 use Rattle.rules.specs.Report.{lent_room, fits, numbers_of, labels_of, notes_of, zeros, bytes_for}
-use Rattle.rules.specs.Answers.{letter_holds, Task, walked_on, halt_answer, end_answer, report_of, Buffers, Memory, accepted}
-use Rattle.rules.specs.Lots.{Named, present_rows, present_task, named_pairs, begin_answer, stays, lot_terms, lot_walk, lot_memory, Leaves}
+use Rattle.rules.specs.Answers.{letter_holds, Task, walked_on, halt_answer, end_answer, report_of, Memory, accepted}
+use Rattle.rules.specs.Lots.{Named, present_rows, present_task, named_pairs, begin_answer, stays, lot_terms, lot_walk, lot_memory}
 use Rattle.rules.specs.LotDemands.{Lot, LotDemands}
 use Rattle.laws.proofs.Appended.{length-wrote_at}
 use Rattle.laws.proofs.Fuel.{plan-on}

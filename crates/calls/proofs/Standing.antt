@@ -2,23 +2,23 @@
 -- goes on, and that what is kept lies within its bounds.
 use mathlib.Core.Path.{◌≡◌, refl, ap, sym, ◌∙◌, subst}
 use mathlib.Core.Bool.{Bool, true, false}
-use mathlib.Core.List.{List, []}
-use mathlib.Core.Logic.{◌⊎◌, inl, inr, ⊎_elim}
-use mathlib.Core.Option.{Option, none, some}
-use Prim.Native.Nat.{ℕ, ◌+◌, ◌≤◌, ◌<◌}
+use mathlib.Core.List.{List}
+use mathlib.Core.Logic.{inl, inr}
+use mathlib.Core.Option.{none, some}
+use Prim.Native.Nat.{ℕ}
 use native.Mathlib.Decide.{ℕ_discrete}
 use native.Mathlib.Omega.{arith}
 use lib.IntN.{ℤ}
 use lib.ListN.{length}
 use Rattle.rules.specs.Basics.{pick}
-use Rattle.rules.specs.Walk.{out_of_rows, Kept}
-use Rattle.rules.specs.Search.{End, unfinished, Swept, Match}
+use Rattle.rules.specs.Walk.{Kept}
+use Rattle.rules.specs.Search.{Swept}
 use Rattle.rules.specs.Report.{labels_of}
 use Rattle.rules.specs.Answers.{Buffers, Memory, Result}
 use Rattle.rules.specs.Lots.{Named, Progress, begun, present_task, stays, lot_tests, named_pairs, bad_lot, call_refusal, lot_walk, lot_memory, Called, arrived, call_of, Leaves}
 use Rattle.lots.specs.declared.Feed.{Feed}
 use Rattle.lots.specs.Feeds.{new_feed, Within}
-use Rattle.calls.specs.Calls.{Before, After, Allowance, New, TakenUp, Stands, taken_up, Made}
+use Rattle.calls.specs.Calls.{Before, After, Allowance, Stands, taken_up, Made}
 use Rattle.calls.proofs.Bounds.{answer_stays, waits-more, done-last, waiting-end, matches-are, labels-are, steps_are, matches-behind, opened_within, steps_few, labels_fit, numbers-kept, labels-kept, notes_kept, trail_kept}
 use Rattle.calls.proofs.Unlimited.{limited, lot_limited, lot_free, begins-same, leaves-limited, leaves_free, walk_same, memory-same, call_same}
 

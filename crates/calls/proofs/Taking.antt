@@ -1,23 +1,21 @@
 -- A call that is taken up: the search on the rows present leaves what the definition says, and what
 -- is kept then stands for it (`taken_made`).
-use mathlib.Core.Path.{◌≡◌, refl, ap, ap₂, sym, ◌∙◌, subst}
+use mathlib.Core.Path.{◌≡◌, refl, ap, sym, ◌∙◌, subst}
 use mathlib.Core.Bool.{Bool, true, false, not, true≢false}
 use mathlib.Core.List.{List}
-use mathlib.Core.Option.{Option, none, some}
-use Prim.Native.Nat.{ℕ, suc, ◌+◌, ◌*◌, ◌≤◌, ◌<◌}
+use mathlib.Core.Option.{some}
+use Prim.Native.Nat.{ℕ, ◌*◌, ◌≤◌, ◌<◌}
 use native.Mathlib.Decide.{ℕ_discrete}
 use native.Mathlib.Numerals.{add-one}
 use native.Mathlib.Omega.{arith}
-use lib.Dec.{eqb}
 use lib.IntN.{ℤ}
 use lib.ListN.{length, get_or, take, drop, length-take}
-use Rattle.rules.specs.Basics.{pick}
 use Rattle.rules.specs.Query.{columns_of, parts}
-use Rattle.rules.specs.Walk.{out_of_rows, pairs, Kept}
-use Rattle.rules.specs.Search.{unfinished, Swept}
+use Rattle.rules.specs.Walk.{out_of_rows, pairs}
+use Rattle.rules.specs.Search.{unfinished}
 use Rattle.rules.specs.Report.{labels_of, bytes_for}
 use Rattle.rules.specs.Answers.{task_of, Buffers, Memory, Result}
-use Rattle.rules.specs.Lots.{Named, Progress, present_rows, present_task, named_pairs, begin_answer, stays, call_refusal, lot_walk, lot_memory, Called, arrived, call_of, Leaves}
+use Rattle.rules.specs.Lots.{Named, Progress, present_rows, present_task, named_pairs, begin_answer, call_refusal, lot_walk, lot_memory, arrived, call_of, Leaves}
 use Rattle.rules.specs.LotDemands.{Lot, Later}
 use Rattle.laws.proofs.Lots.{Begins_well, begins-well, call-well}
 use Rattle.prepared.specs.Ready.{Ready}
@@ -29,14 +27,13 @@ use Rattle.starting.specs.declared.Terms.{Terms}
 use Rattle.starting.specs.Starts as S
 use Rattle.outcome.specs.declared.Outcome.{Outcome}
 use Rattle.outcome.specs.Results.{lent, memory}
-use Rattle.lots.specs.declared.Feed.{Feed}
 use Rattle.lots.specs.Feeds.{kept_in}
 use Rattle.lots.proofs.Pairs.{named-pairs}
 use Rattle.lots.proofs.Calling.{first-leaves, first-waits, later-leaves, later-waits}
 use Rattle.calls.specs.declared.Call.{Call}
 use Rattle.calls.specs.declared.Fed.{Fed}
 use Rattle.calls.specs.Calls.{TakenUp, Stands, taken_up, Made}
-use Rattle.calls.specs.Steps.{before, after, terms_of, kept_by, outcome_by, Went}
+use Rattle.calls.specs.Steps.{before, after, kept_by, outcome_by, Went}
 use Rattle.calls.proofs.Bounds.{waiting-end, matches-are, labels-are, steps_are, trail_beyond}
 use Rattle.calls.proofs.Unlimited.{call-begins}
 use Rattle.calls.proofs.Standing.{notes_long, trail_long, numbers_long, labels_long, waits-going, waits-unended, made_by}

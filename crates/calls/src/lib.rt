@@ -7,16 +7,19 @@
 #![tactic(auto)]
 
 ghost use Rattle.std.specs.Prelude.{◌≡◌, List, ℕ};
+ghost use Rattle.refusals.specs.Refusals.{answer_of, offset_of};
 ghost use Rattle.prepared.specs.Ready.{Given};
+ghost use Rattle.ahead.specs.Looking.{StandsFor};
 ghost use Rattle.calls.specs.Calls.{Calls};
-ghost use Rattle.calls.specs.Steps.{before, after, refusing, kept_by, Told, Goes, Went};
+ghost use Rattle.calls.specs.Steps.{before, after, refusing, kept_by, Told, Admits, Goes, Went};
 
 use ahead::looks_ahead;
 use lot_answers::{Measured, lot_answer};
 use lots::{Feed, advance, within};
 use matches::Sweep;
-use outcome::{Outcome, finished, refused};
+use outcome::{Outcome, finished};
 use prepared::Prepared;
+use refusals::Refusal;
 use starting::{Terms, task_of};
 
 // A call: what was kept before it, how many rows are present, and whether it is the last.
@@ -34,16 +37,11 @@ pub struct Fed {
     pub outcome: Outcome,
 }
 
-// Answer 17, and that of a call out of order.
-const LOOKS_AHEAD: usize = 17;
-
-pub const OUT_OF_ORDER: usize = 21;
-
 // The call is refused: what is kept stays as it is.
-pub fn refuse(feed: Feed, answer: usize, offset: usize) -> Fed
-    ensures { result ≡ refusing feed answer offset }
+pub fn refuse(feed: Feed, refusal: Refusal) -> Fed
+    ensures { result ≡ refusing feed (answer_of refusal) (offset_of refusal) }
 {
-    let outcome = refused(answer, offset);
+    let outcome = Outcome::from(refusal);
     Fed { feed, outcome }
 }
 
@@ -94,10 +92,47 @@ fn go(
     Fed { feed, outcome }
 }
 
+// Whether a call over a prepared query is refused, by the lengths of the rows' slice and of the lent
+// buffers: a query that looks ahead, the numbers of the call, or numbers kept that lie outside their
+// bounds.
+#[tactic(auto, using(crate::proofs::Refusing::admits))]
+fn admit(
+    table: &[u16],
+    p: Prepared,
+    call: Call,
+    entries: usize,
+    notes: usize,
+    trail: usize,
+    labels: usize,
+) -> Result<(), Refusal>
+    requires { StandsFor table.now p }
+    ensures { Admits table.now p call entries notes trail labels result }
+{
+    if looks_ahead(table, p) {
+        return Err(Refusal::LooksAhead);
+    }
+    let feed = call.feed;
+    lot_answer(Measured {
+        places: p.places,
+        columns: p.columns,
+        largest: feed.largest,
+        present: call.present,
+        before: feed.present,
+        entries,
+        notes,
+        trail,
+    })?;
+    if within(feed, labels) {
+        Ok(())
+    } else {
+        Err(Refusal::OutOfOrder)
+    }
+}
+
 // A call over a prepared query.
 pub fn call_prepared(
     table: &[u16],
-    p: Prepared,
+    prepared: Result<Prepared, Refusal>,
     call: Call,
     rows: &[i32],
     notes: &mut [u8],
@@ -105,45 +140,26 @@ pub fn call_prepared(
     numbers: &mut [i64],
     labels: &mut [u8],
 ) -> Fed
-    requires { Told table.now p × (call.feed.answer ≡ 23) }
-    ensures { (q : List ℕ) → Given q table.now p → Calls (before call q rows.now notes.old trail.old numbers.old labels.old) (after result notes.new trail.new numbers.new labels.new) }
+    requires { Told table.now prepared × (call.feed.answer ≡ 23) }
+    ensures { (q : List ℕ) → Given q table.now prepared → Calls (before call q rows.now notes.old trail.old numbers.old labels.old) (after result notes.new trail.new numbers.new labels.new) }
 {
-    let feed = call.feed;
-    let told = p.answer;
-    if told != 0 {
-        return refuse(feed, told, p.offset);
-    }
-    if looks_ahead(table, p) {
-        return refuse(feed, LOOKS_AHEAD, 0);
-    }
-    let columns = p.columns;
-    let present = call.present;
-    let measured = Measured {
-        places: p.places,
-        columns,
-        largest: feed.largest,
-        present,
-        before: feed.present,
-        entries: rows.len(),
-        notes: notes.len(),
-        trail: trail.len(),
+    let p = match prepared {
+        Ok(p) => p,
+        Err(refusal) => return refuse(call.feed, refusal),
     };
-    let answer = lot_answer(measured);
-    if answer != 0 {
-        return refuse(feed, answer, 0);
+    match admit(
+        table,
+        p,
+        call,
+        rows.len(),
+        notes.len(),
+        trail.len(),
+        labels.len(),
+    ) {
+        Ok(()) => {
+            let part = &rows[..call.present * p.columns];
+            go(table, p, call, part, notes, trail, numbers, labels)
+        }
+        Err(refusal) => refuse(call.feed, refusal),
     }
-    if within(feed, labels.len()) {
-        let entries = present * columns;
-        return go(
-            table,
-            p,
-            call,
-            &rows[..entries],
-            notes,
-            trail,
-            numbers,
-            labels,
-        );
-    }
-    refuse(feed, OUT_OF_ORDER, 0)
 }

@@ -8,9 +8,10 @@ ghost use Rattle.outcome.specs.Results.{lent, memory};
 ghost use Rattle.depots.specs.Partition.{Parted};
 ghost use Rattle.depots.specs.Calls.{Calls};
 
-use depot_state::{DEPOT, LENGTH, MONTH, NO_NUMBER, PARTITIONS, count_done, list_one};
+use depot_state::{DEPOT, LENGTH, MONTH, PARTITIONS, count_done, list_one};
 use named::is_three;
-use outcome::{Outcome, refused};
+use outcome::Outcome;
+use refusals::Refusal;
 use tally::NamedColumns;
 
 // As many partitions as get a number.
@@ -29,7 +30,7 @@ fn search_partition(
     ensures { Parted named query.now rows.now (lent notes.old trail.old numbers.old labels.old) (memory result notes.new trail.new numbers.new labels.new) }
 {
     if is_three(query, named.depot, named.month) {
-        return refused(3, 0);
+        return Outcome::from(Refusal::Unfit);
     }
     search::search(query, rows, notes, trail, numbers, labels)
 }
@@ -48,11 +49,11 @@ pub fn partition(
     ensures { Calls (record { query = query.now; rows = rows.now; buffers = lent notes.old trail.old numbers.old labels.old; state = state.old; list = list.old }) (record { memory = memory result notes.new trail.new numbers.new labels.new; state = state.new; list = list.new }) }
 {
     if state.len() < LENGTH {
-        return refused(NO_NUMBER, 0);
+        return Outcome::from(Refusal::NoNumber);
     }
     let taken = state[PARTITIONS];
     if MOST <= taken {
-        return refused(NO_NUMBER, 0);
+        return Outcome::from(Refusal::NoNumber);
     }
     let named = NamedColumns {
         depot: state[DEPOT],
@@ -64,7 +65,7 @@ pub fn partition(
         if list_one(state, list, answer) {
             return r;
         }
-        return refused(NO_NUMBER, 0);
+        return Outcome::from(Refusal::NoNumber);
     }
     count_done(state, query, rows, numbers, r.matches);
     r

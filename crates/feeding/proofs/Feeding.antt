@@ -1,7 +1,7 @@
 -- A call where the search does not wait: it is out of order after the end, and where the search has
 -- stopped the result is as before.
-use mathlib.Core.Path.{◌≡◌, refl, sym, ◌∙◌, subst}
-use mathlib.Core.Bool.{Bool, true, false}
+use mathlib.Core.Path.{◌≡◌, refl, sym, subst}
+use mathlib.Core.Bool.{false}
 use mathlib.Core.List.{List}
 use Prim.Native.Nat.{ℕ}
 use lib.IntN.{ℤ}
@@ -37,9 +37,9 @@ module _ (c : Call) (q : List ℕ) (rows : List ℤ) (notes trail : List ℕ) (n
         made_by s pr rows₁ (before c q rows notes trail numbers labels) (after (refusing c.feed 21 0) notes trail numbers labels) (unchanged pr (refused 21 0 b)) false call-done done-untaken
         (same-leaves s (refused 21 0 b)) st (λ _. (refl, refl))
 
-  pub done-keeps : c.feed.answer ≡ 0 → (r : Fed) → r ≡ refusing c.feed 21 0 → Keeps r
+  pub done_keeps : c.feed.answer ≡ 0 → (r : Fed) → r ≡ refusing c.feed 21 0 → Keeps r
   unfolding Calls
-  done-keeps z r er s pr rows₁ eq st later =
+  done_keeps z r er s pr rows₁ eq st later =
       subst (λ (x : Fed). Made s pr rows₁ (before c q rows notes trail numbers labels) (after x notes trail numbers labels)) (sym er) (done-made z s pr rows₁ st)
 
   -- where it has stopped
@@ -57,7 +57,9 @@ module _ (c : Call) (q : List ℕ) (rows : List ℤ) (notes trail : List ℕ) (n
         made_by s pr rows₁ (before c q rows notes trail numbers labels) (after (as_before c.feed) notes trail numbers labels) (unchanged pr (record { result = pr.result; buffers = b })) false call-stopped
         stopped-untaken (record { result = sym st.result; notes = refl; numbers = refl; labels = refl; trail = λ _. refl; trail_length = refl; trail_beyond = refl }) st (λ _. (refl, refl))
 
-  pub stopped-keeps : (c.feed.answer ≡ 23 → ⊥) → (c.feed.answer ≡ 0 → ⊥) → (r : Fed) → r ≡ as_before c.feed → Keeps r
+  pub stopped_keeps : (c.feed.answer ≡ 23 → ⊥) → (c.feed.answer ≡ 0 → ⊥) → (r : Fed) → r ≡ as_before c.feed → Keeps r
   unfolding Calls
-  stopped-keeps x y r er s pr rows₁ eq st later =
+  stopped_keeps x y r er s pr rows₁ eq st later =
       subst (λ (v : Fed). Made s pr rows₁ (before c q rows notes trail numbers labels) (after v notes trail numbers labels)) (sym er) (stopped-made x y s pr rows₁ st)
+
+pub ruleset feeds = (done_keeps, stopped_keeps)

@@ -5,8 +5,10 @@
 #![tactic(auto)]
 
 ghost use Rattle.std.specs.Prelude.{◌≡◌};
+ghost use Rattle.refusals.specs.Refusals.{answer_in, offset_in};
 ghost use Rattle.lot_answers.specs.Lot.{Small, bad_numbers, lot_answer};
 
+use refusals::Refusal;
 use sizes::{MOST_ROWS, short_room};
 
 // What a call is judged by: the places with their flags, the columns of a row, the largest number
@@ -24,6 +26,7 @@ pub struct Measured {
 }
 
 // Answer 10. The product is small, as it is made only behind the tests of the numbers in it.
+#[tactic(auto, using(crate::proofs::Laws::lot))]
 fn bad_lot(m: Measured) -> bool
     requires { Small m }
     ensures { result ≡ bad_numbers m }
@@ -40,21 +43,20 @@ fn bad_lot(m: Measured) -> bool
     m.entries < m.present * m.columns
 }
 
-// The answer 10, 11, 12 or 21 of a call, or 0. Notes and trail are measured by the largest number
-// of rows, so that they are long enough for every later call too.
-pub fn lot_answer(m: Measured) -> usize
+// Whether a call is refused with 10, 11, 12 or 21. Notes and trail are measured by the largest
+// number of rows, so that they are long enough for every later call too.
+#[tactic(auto, using(crate::proofs::Laws::answers))]
+pub fn lot_answer(m: Measured) -> Result<(), Refusal>
     requires { Small m }
-    ensures { result ≡ lot_answer m }
+    ensures answer { answer_in result ≡ lot_answer m }
+    ensures offset { offset_in result ≡ 0 }
 {
     if bad_lot(m) {
-        return 10;
+        return Err(Refusal::BadRows);
     }
-    let short = short_room(m.places * (m.largest + 1), m.notes, m.trail);
-    if short != 0 {
-        return short;
-    }
+    short_room(m.places * (m.largest + 1), m.notes, m.trail)?;
     if m.present < m.before {
-        return 21;
+        return Err(Refusal::OutOfOrder);
     }
-    0
+    Ok(())
 }

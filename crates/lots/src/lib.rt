@@ -33,7 +33,7 @@ pub struct Feed {
 }
 
 // The answer while more rows are waited for.
-const WAITING: usize = 23;
+pub const WAITING: usize = 23;
 
 // As many steps as a search by lots may have taken: more than any takes.
 const MOST_STEPS: usize = 4611686018427387904;

@@ -60,8 +60,8 @@ small q rows = go (eqb (room_answer q (bad_rows q rows)) 0) refl
     go false e = record { places = omega arith; factor = omega arith; rows = omega arith }
 
 -- so for what is told: the pairs fit too
-pub pairs-fit : (q : List ℕ) (rows : List ℤ) (r : Room) → r ≡ room_of q rows → (r.rows ≤ 4096) × (r.places * r.factor ≤ 2048) × (r.places * r.factor * (r.rows + 1) ≤ 8390656)
-pairs-fit q rows r e =
+pub pairs_fit : (q : List ℕ) (rows : List ℤ) (r : Room) → r ≡ room_of q rows → (r.rows ≤ 4096) × (r.places * r.factor ≤ 2048) × (r.places * r.factor * (r.rows + 1) ≤ 8390656)
+pairs_fit q rows r e =
     let s : Small r = rw e (small q rows) in
     let m : r.places * r.factor ≤ 256 * 8 = mul-le-mul s.places s.factor in
     let k : r.places * r.factor * (r.rows + 1) ≤ 2048 * 4097 = mul-le-mul m (let g : r.rows + 1 ≤ 4097 = omega (arith, s.rows) in g) in

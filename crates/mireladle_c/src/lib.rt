@@ -18,12 +18,13 @@ ghost use Rattle.feeding.specs.Calls.{Calls as LotCalls};
 ghost use Rattle.mireladle_c.specs.Told.{Told};
 
 use bus_log::Verdict;
+use calls::Call;
 use lots::Feed;
 use outcome::Outcome;
 use test_letter::Tested;
 
 // How much to lend: the answer 1 to 10 or 14, with the offset of 5 and 14, or 0 with P, n, the
-// number of pairs and R-3's factor F.
+// number of pairs and R-3's factor F. It is the C interface's struct, so a number and no `Result`.
 #[repr(C)]
 #[derive(Clone, Copy)]
 pub struct Room {
@@ -71,14 +72,23 @@ pub extern "C" fn mireladle_search_within(
 pub extern "C" fn mireladle_room(query: &[u8], rows: &[i32]) -> Room
     ensures { Told query.now rows.now result }
 {
-    let size = room::room(query, rows);
-    Room {
-        answer: size.answer,
-        places: size.places,
-        rows: size.rows,
-        pairs: size.places * size.factor * (size.rows + 1),
-        offset: size.offset,
-        factor: size.factor,
+    match room::room(query, rows) {
+        Ok(size) => Room {
+            answer: 0,
+            places: size.places,
+            rows: size.rows,
+            pairs: size.places * size.factor * (size.rows + 1),
+            offset: 0,
+            factor: size.factor,
+        },
+        Err(refusal) => Room {
+            answer: refusal.answer(),
+            places: 0,
+            rows: 0,
+            pairs: 0,
+            offset: refusal.offset(),
+            factor: 0,
+        },
     }
 }
 
@@ -134,8 +144,7 @@ pub extern "C" fn mireladle_test(query: &[u8], rows: &[i32], letter: u8, row: us
 pub extern "C" fn mireladle_begin(feed: &mut Feed, largest: usize, allowance: usize)
     ensures { feed.new ≡ new_feed largest allowance }
 {
-    let after = lots::begin(largest, allowance);
-    *feed = after;
+    *feed = lots::begin(largest, allowance);
 }
 
 // A lot of rows, behind which more may come.
@@ -152,10 +161,13 @@ pub extern "C" fn mireladle_more(
 ) -> Outcome
     ensures { LotCalls (record { feed = feed.old; query = query.now; rows = rows.now; present = present; last = false; buffers = lent notes.old trail.old numbers.old labels.old }) (record { feed = feed.new; memory = memory result notes.new trail.new numbers.new labels.new }) }
 {
-    let before = *feed;
-    let fed = feeding::more(before, query, rows, present, notes, trail, numbers, labels);
-    let after = fed.feed;
-    *feed = after;
+    let call = Call {
+        feed: *feed,
+        present,
+        last: false,
+    };
+    let fed = feeding::feed(query, rows, notes, trail, numbers, labels, call);
+    *feed = fed.feed;
     fed.outcome
 }
 
@@ -173,9 +185,12 @@ pub extern "C" fn mireladle_last(
 ) -> Outcome
     ensures { LotCalls (record { feed = feed.old; query = query.now; rows = rows.now; present = present; last = true; buffers = lent notes.old trail.old numbers.old labels.old }) (record { feed = feed.new; memory = memory result notes.new trail.new numbers.new labels.new }) }
 {
-    let before = *feed;
-    let fed = feeding::last(before, query, rows, present, notes, trail, numbers, labels);
-    let after = fed.feed;
-    *feed = after;
+    let call = Call {
+        feed: *feed,
+        present,
+        last: true,
+    };
+    let fed = feeding::feed(query, rows, notes, trail, numbers, labels, call);
+    *feed = fed.feed;
     fed.outcome
 }

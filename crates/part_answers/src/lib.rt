@@ -5,29 +5,30 @@
 ghost use Rattle.reading.specs.Reading.{JudgeRoom, JudgedParts};
 
 use decode::Parts;
-use reading::{Query, has_foreign, refused};
+use reading::{Query, has_foreign};
+use refusals::Refusal;
 
 // The pattern of a query with no answer 1 to 3 judged, then its DEFINEs, measures and skip. Whether
 // two DEFINEs are for one letter (8) was told when the parts were decoded.
-pub fn judge_parts(s: &[u8], parts: Parts, room: &mut [u16], measures: &[u8; 24]) -> Query
+#[tactic(auto, using(reading::proofs::Laws::judges))]
+pub fn judge_parts(
+    s: &[u8],
+    parts: Parts,
+    room: &mut [u16],
+    measures: &[u8; 24],
+) -> Result<Query, Refusal>
     requires { JudgeRoom s.now room.old measures.now parts }
     ensures { JudgedParts s.now room.new measures.now parts result }
 {
-    let start = parts.start;
-    let end = start + parts.len;
-    let v = match judge::judge(&s[start..end], room) {
-        Ok(v) => v,
-        Err(e) => return refused(e.answer(), e.offset()),
-    };
+    let text = &s[parts.start..parts.start + parts.len];
+    let v = judge::judge(text, room)?;
     if parts.twice {
-        return refused(8, 0);
+        return Err(Refusal::Doubled);
     }
-    if has_foreign(&s[start..end], measures, parts.measures, parts.target) {
-        return refused(9, 0);
+    if has_foreign(text, measures, parts.measures, parts.target) {
+        return Err(Refusal::Foreign);
     }
-    Query {
-        answer: 0,
-        offset: 0,
+    Ok(Query {
         places: v.places,
         factor: v.factor,
         top: v.top,
@@ -36,5 +37,5 @@ pub fn judge_parts(s: &[u8], parts: Parts, room: &mut [u16], measures: &[u8; 24]
         target: parts.target,
         measures: parts.measures,
         letters: parts.letters,
-    }
+    })
 }

@@ -3,7 +3,8 @@
 use mathlib.Core.Path.{◌≡◌, refl, ap, ap₂, sym, ◌∙◌}
 use mathlib.Core.Bool.{Bool, true, false, ◌||◌}
 use mathlib.Core.List.{List}
-use mathlib.Core.Option.{some}
+use Rattle.std.specs.Prelude.{Ok, Err, Some, None}
+use Rattle.refusals.specs.declared.Refusal.{Refusal}
 use Prim.Native.Nat.{ℕ, ◌+◌, ◌*◌, ◌≤◌, ◌<◌, min}
 use native.Mathlib.Nat.{mul-le-mul}
 use native.Mathlib.Omega.{arith}
@@ -33,8 +34,8 @@ use Rattle.reading.specs.Reading.{query_answer, Asked}
 use Rattle.reading.specs.declared.Query.{Query}
 use Rattle.prepared.specs.declared.Prepared.{Prepared}
 use Rattle.table_room.specs.Words.{measures_at, tests_at, needed, Sizing}
-use Rattle.prepared.specs.Ready.{refused_prepared, Ready, Fills, PreparedAs}
-use Rattle.prepared.proofs.Clear.{few_places, few_values, no_answer}
+use Rattle.prepared.specs.Ready.{Ready, Fills, PreparedAs}
+use Rattle.prepared.proofs.Clear.{few_places, few_values}
 
 -- ---- the table is filled
 
@@ -157,7 +158,7 @@ module _ (s nodes defines measures : List ℕ) (q : Query) (T₀ : List ℕ) (f 
               (λ k h. rw f.whole.good.columns (f.whole.decoded.fit k (rw f.whole.good.measured at h))))
 
           pub fill_ready : (p : Prepared)
-              → p ≡ record { answer = 0; offset = 0; places = q.places * q.factor; columns = q.columns; count = q.measures; skip = q.skip; target = q.target } → Ready s T₄ p
+              → p ≡ record { places = q.places * q.factor; columns = q.columns; count = q.measures; skip = q.skip; target = q.target } → Ready s T₄ p
           fill_ready p e =
               rw e
               (record {
@@ -183,46 +184,34 @@ module _ (s nodes defines measures : List ℕ) (q : Query) (T₀ : List ℕ) (f 
 
 -- ---- the ways through `prepare_in`
 
-module _ (s measures₀ nodes defines measures : List ℕ) (q : Query) (a : Asked s measures₀ nodes defines measures q) (T : List ℕ) where
-  pub not-ready : (q.answer ≡ 0 → ⊥) → (p : Prepared) → p ≡ refused_prepared q.answer q.offset → PreparedAs s T T p
-  not-ready d p e =
-      rw e
-      (record {
-        given = λ _. record { refused = λ _. (a.answer, a.offset); ready = λ z. absurd (d z) };
-        no_room = λ z. absurd (no_answer s (sym a.answer ∙ z));
-        len = refl;
-      })
+module _ (s measures₀ nodes defines measures T : List ℕ) where
+  pub not_ready : (e : Refusal) → Asked s measures₀ nodes defines measures (Err e) → PreparedAs s T T (Some (Err e))
+  not_ready e a = record { told = record { told = record { answer = a.answer; offset = a.offset } }; len = refl }
 
-  module _ (z : q.answer ≡ 0) where
-    none : query_answer s ≡ 0
-    none = sym a.answer ∙ z
+  module _ (q : Query) (a : Asked s measures₀ nodes defines measures (Ok q)) where
+    none_lem : query_answer s ≡ 0
+    none_lem = sym a.answer
 
     few_all : q.places * q.factor ≤ 2048
     few_all =
-        let w = a.good z in
-        mul-le-mul (let x : q.places ≤ 256 = omega (arith, w.good.places, few_places s none) in x)
-        (let x : q.factor ≤ 8 = omega (arith, w.good.factor, few_values s none w.good.tree w.good.is) in x)
+        let w = a.good in
+        mul-le-mul (let x : q.places ≤ 256 = omega (arith, w.good.places, few_places s none_lem) in x)
+        (let x : q.factor ≤ 8 = omega (arith, w.good.factor, few_values s none_lem w.good.tree w.good.is) in x)
 
     pub all_fits : Fits w64 (q.places * q.factor)
     all_fits = record { fits = omega (arith, few_all) }
 
     pub sizing : Sizing s defines (q.places * q.factor) q.letters
     sizing =
-        let w = a.good z in
+        let w = a.good in
         record {
           few = few_all;
           countable = countable s w.parts.columns defines q.letters (omega (arith, w.good.letters, w.decoded.upto)) (λ l h d. (w.decoded.letters l h).body d);
         }
 
     module _ (k : ℕ) (ek : (k ≡ needed s defines (q.places * q.factor) q.letters) × (k ≤ 16076)) (t : Bool) (et : t ≡ (ltb (length T) k || ltb 65535 (length T))) where
-      pub too_short : t ≡ true → (p : Prepared) → p ≡ refused_prepared 255 0 → PreparedAs s T T p
-      too_short f p e =
-          rw e
-          (record {
-            given = λ d. absurd (d refl);
-            no_room = λ _ l. by (ltb (length T) k) refl l;
-            len = refl;
-          })
+      pub too_short : t ≡ true → PreparedAs s T T None
+      too_short f = record { told = λ l. by (ltb (length T) k) refl l; len = refl }
         where
           by : (b : Bool) → ltb (length T) k ≡ b → 16076 ≤ length T → 65536 ≤ length T
           by true g l = absurd (let y = ltb-true (length T) k g in let x = ek.1 in omega arith)
@@ -233,12 +222,10 @@ module _ (s measures₀ nodes defines measures : List ℕ) (q : Query) (a : Aske
           let g = or-false (ltb (length T) k) (ltb 65535 (length T)) (sym et ∙ f) in
           let x = ltb-false (length T) k g.0 in
           let y = ltb-false 65535 (length T) g.1 in
-          record { none = none; measures₀ = measures₀; whole = a.good z; room = rw (← ek.0) x; small = omega arith }
+          record { none = none_lem; measures₀ = measures₀; whole = a.good; room = rw (← ek.0) x; small = omega arith }
 
-  pub filled : (T' : List ℕ) → length T' ≡ length T → (p : Prepared) → (p.answer ≡ 0) × Ready s T' p → PreparedAs s T T' p
-  filled T' l p h =
-      record {
-        given = λ _. record { refused = λ d. absurd (d h.0); ready = λ _. h.1 };
-        no_room = λ e. absurd (let y : ◌≡◌ {A = ℕ} 0 255 = sym h.0 ∙ e in omega arith);
-        len = l;
-      }
+  pub filled : (T' : List ℕ) → length T' ≡ length T → (p : Prepared) → Ready s T' p → PreparedAs s T T' (Some (Ok p))
+  filled T' l p h = record { told = record { told = h }; len = l }
+
+-- what the proof of `prepare_in` cites
+pub ruleset prepares = (not_ready, all_fits, sizing, too_short, may_fill, filled)

@@ -1,2 +1,3 @@
 mod Clear
 mod Filling
+pub mod Enough

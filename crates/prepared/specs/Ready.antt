@@ -1,12 +1,14 @@
 -- What a table and the numbers beside it say of a query that is prepared, and what preparing one
 -- asks and promises.
-use Rattle.std.specs.Prelude.{◌≡◌, false, List, ℕ, ◌+◌, ◌*◌, ◌≤◌, ◌<◌, length}
+use Rattle.std.specs.Prelude.{◌≡◌, Option, Result, MatchOption, MatchResult, List, ℕ, ◌+◌, ◌*◌, ◌≤◌, ◌<◌, length}
 use Rattle.std.proofs.Math.Option.{some}
 use Rattle.rules.specs.Query.{parts, text_of}
 use Rattle.rules.specs.Language.{Tree, pattern}
 use Rattle.rules.specs.Places.{places, unroll, places_of, factor_of}
 use Rattle.rules.specs.Answers.{tree_in, offset_at}
 use Rattle.rules.specs.Working.{thinned}
+use Rattle.refusals.specs.Refusals.{answer_of, offset_of}
+use Rattle.refusals.specs.declared.Refusal.{Refusal}
 use Rattle.measure_list.specs.Measures.{Measurable}
 use Rattle.reading.specs.Reading.{query_answer, Whole}
 use Rattle.reading.specs.declared.Query.{Query}
@@ -40,20 +42,18 @@ pub record Ready (q T : List ℕ) (p : Prepared) : Type 0 where
   pub skip_is : p.skip ≡ (parts q).skip
   pub target_is : p.target ≡ (parts q).skip_letter
 
--- a query that is not prepared
-abbrev pub refused_prepared : ℕ → ℕ → Prepared
-refused_prepared a k = record { answer = a; offset = k; places = 0; columns = 0; count = 0; skip = 0; target = 0 }
+-- what is told of a query: its own answer with its offset, or it is ready
+pub record Refuses (q : List ℕ) (e : Refusal) : Type 0 where
+  pub answer : answer_of e ≡ query_answer q
+  pub offset : offset_of e ≡ offset_at (text_of q) (answer_of e)
 
--- what is told of a query: its own answer with its offset, or 0 where it is ready
-pub record Given (q T : List ℕ) (p : Prepared) : Type 0 where
-  pub refused : (p.answer ≡ 0 → ⊥) → (p.answer ≡ query_answer q) × (p.offset ≡ offset_at (text_of q) p.answer)
-  pub ready : p.answer ≡ 0 → Ready q T p
+pub record Given (q T : List ℕ) (r : Result Prepared Refusal) : Type 0 where
+  pub told : MatchResult r (Ready q T) (Refuses q)
 
--- What preparing promises: that, unless it tells that there is no room; and there is, in a table of
--- 16,076 to 65,535 words.
-pub record PreparedAs (q T T' : List ℕ) (p : Prepared) : Type 0 where
-  pub given : (p.answer ≡ 255 → ⊥) → Given q T' p
-  pub no_room : p.answer ≡ 255 → 16076 ≤ length T → 65536 ≤ length T
+-- What preparing promises: that, or there is no room; and there is, in a table of 16,076 to 65,535
+-- words.
+pub record PreparedAs (q T T' : List ℕ) (r : Option (Result Prepared Refusal)) : Type 0 where
+  pub told : MatchOption r (16076 ≤ length T → 65536 ≤ length T) (Given q T')
   pub len : length T' ≡ length T
 
 -- ---- the steps of the code

@@ -7,26 +7,24 @@
 // words that nothing reads are left as they are.
 #![tactic(auto)]
 
-ghost use Rattle.std.specs.Prelude.{◌≡◌};
+ghost use Rattle.std.specs.Prelude.{◌≤◌};
 ghost use Rattle.reading.specs.Reading.{Nodes};
-ghost use Rattle.prepared.specs.Ready.{refused_prepared, Fills, Ready, PreparedAs};
+ghost use Rattle.prepared.specs.Ready.{Fills, Ready, PreparedAs};
 
 use letter_places::point;
 use measure_list::put_in_table;
 use places::unroll;
 use reading::{Query, text_is_short};
+use refusals::Refusal;
 use room::read_query;
 use table_room::{MEASURE_WORDS, PLACE_WORDS, has_no_room, words_needed};
 use tests::put_tests;
 
-// A prepared query beside its table: its answer, with the offset of 5 and 14; where that is 0, the
-// places in its table, one for each value of their flags, the columns of a row, how many measures
-// it has, the skip mode of its record, and the letter that the skip names, 0 for none.
-#[repr(C)]
+// A prepared query beside its table: the places in its table, one for each value of their flags, the
+// columns of a row, how many measures it has, the skip mode of its record, and the letter that the
+// skip names, 0 for none.
 #[derive(Clone, Copy)]
 pub struct Prepared {
-    pub answer: usize,
-    pub offset: usize,
     pub places: usize,
     pub columns: usize,
     pub count: usize,
@@ -34,26 +32,9 @@ pub struct Prepared {
     pub target: usize,
 }
 
-// No answer of document 01: the table has too few words for the query, or more than 65,535.
-pub const NO_ROOM: usize = 255;
-
 // The words that are enough for every query: those of 256 places with 8 values of their flags and
 // their ways, 8 measures, 26 letters, and of each letter 50 for the entries of a DEFINE of kind 6.
 pub const MOST_WORDS: usize = 16076;
-
-fn not_prepared(answer: usize, offset: usize) -> Prepared
-    ensures { result ≡ refused_prepared answer offset }
-{
-    Prepared {
-        answer,
-        offset,
-        places: 0,
-        columns: 0,
-        count: 0,
-        skip: 0,
-        target: 0,
-    }
-}
 
 // The table of a query that has no answer of its own. The places come last, since they leave the
 // words behind theirs as they are; then those of letters are told their tests.
@@ -66,7 +47,7 @@ fn fill(
     table: &mut [u16],
 ) -> Prepared
     requires { Fills query.now nodes.now defines.now measures.now q table.old }
-    ensures ready { (result.answer ≡ 0) × Ready query.now table.new result }
+    ensures ready { Ready query.now table.new result }
 {
     let places = q.places;
     let factor = q.factor;
@@ -81,8 +62,6 @@ fn fill(
     let _end = unroll(nodes, q.top, places, factor, table);
     point(table, entries, tests);
     Prepared {
-        answer: 0,
-        offset: 0,
         places: entries,
         columns,
         count,
@@ -91,35 +70,41 @@ fn fill(
     }
 }
 
-// A query prepared, with room for the tree of its pattern.
-fn prepare_in(nodes: &mut [u16], query: &[u8], table: &mut [u16]) -> Prepared
-    requires { Nodes query.now nodes.old }
+// A query prepared, with so many words for the tree of its pattern.
+#[tactic(auto, using(crate::proofs::Filling::prepares))]
+fn prepare_in<const NODES: usize>(
+    query: &[u8],
+    table: &mut [u16],
+) -> Option<Result<Prepared, Refusal>>
+    requires nodes { Nodes query.now NODES }
+    requires few { NODES ≤ 4096 }
     ensures { PreparedAs query.now table.old table.new result }
 {
+    let mut nodes = [0u16; NODES];
     let mut defines = [0usize; 26];
     let mut measures = [0u8; 24];
-    let q = read_query(query, nodes, &mut defines, &mut measures);
-    let answer = q.answer;
-    if answer != 0 {
-        return not_prepared(answer, q.offset);
-    }
+    let q = match read_query(query, &mut nodes, &mut defines, &mut measures) {
+        Ok(q) => q,
+        Err(refusal) => return Some(Err(refusal)),
+    };
     let entries = q.places * q.factor;
     let needed = words_needed(query, &defines, entries, q.letters);
     if has_no_room(table.len(), needed) {
-        return not_prepared(NO_ROOM, 0);
+        return None;
     }
-    fill(query, nodes, &defines, &measures, q, table)
+    Some(Ok(fill(query, &nodes, &defines, &measures, q, table)))
 }
 
-// A query prepared. A short text gets a small room for its tree, since clearing a large one takes
-// longer than reading the query.
-pub fn prepare(query: &[u8], table: &mut [u16]) -> Prepared
+// A query prepared, or refused; none where the table has too few words for it, or more than 65,535.
+// A short text gets a small room for its tree, since clearing a large one takes longer than reading
+// the query.
+#[tactic(auto, using(reading::proofs::Short::nodes))]
+pub fn prepare(query: &[u8], table: &mut [u16]) -> Option<Result<Prepared, Refusal>>
     ensures { PreparedAs query.now table.old table.new result }
 {
     if text_is_short(query) {
-        let mut nodes = [0u16; 256];
-        return prepare_in(&mut nodes, query, table);
+        prepare_in::<256>(query, table)
+    } else {
+        prepare_in::<4096>(query, table)
     }
-    let mut nodes = [0u16; 4096];
-    prepare_in(&mut nodes, query, table)
 }

@@ -5,17 +5,22 @@ use mathlib.Core.Bool.{Bool, true, false, not, ◌&&◌, ◌||◌}
 use mathlib.Core.List.{List, [], ◌∷◌, ◌++◌}
 use Prim.Native.Nat.{ℕ, zero, suc, ◌+◌, ◌-◌, ◌/◌, ◌≤◌, ◌<◌}
 use lib.ListN.{length, take, drop, length-take, length-drop}
-use native.Mathlib.Nat.{not-suc-le-zero}
 use native.Mathlib.Numerals.{add-one}
 use native.Mathlib.Omega.{arith}
 use lib.Dec.{eqb, ltb, leb}
 use lib.IntN.{ℤ}
-use borrow.Author.Tests.{ltb-true, ltb-false, ne_eqb, eqb-true, leb-true, not-true, not-false}
+use borrow.Author.Tests.{ne_eqb, eqb-true, leb-true}
 use mathlib.Core.Option.{some}
+use mathlib.Core.Logic.{inl, inr}
+use Rattle.std.specs.Prelude.{Result, Ok, Err}
+use Rattle.refusals.specs.Refusals.{answer_of, offset_of, answer_in, offset_in}
+use Rattle.refusals.specs.declared.Refusal.{Refusal}
+use Rattle.refusals.specs.declared.Refusal.TheVariants.{Doubled, Foreign, BadRows}
+use Rattle.refusals.proofs.Numbers.{some_answer}
 use Rattle.rules.specs.Basics.{pick, in_range, is_letter, every, has, tabulate}
 use Rattle.rules.specs.Query.{Measure, function_fits, cut, misplaced, unfit, doubled, columns_of, text_of, parts}
 use Rattle.rules.specs.Language.{Tree, pattern, letters, Written}
-use Rattle.rules.specs.Answers.{too_deep, tree_in, wrong, incomplete, nested_loops, too_many, P, F, letters_in, is_foreign, foreign, Test, first_of, refuses, query_tests, offset_at, bad_rows, room_answer, room_of}
+use Rattle.rules.specs.Answers.{too_deep, tree_in, wrong, incomplete, nested_loops, too_many, P, F, letters_in, is_foreign, foreign, Test, first_of, refuses, query_tests, offset_at, deep, bad_rows, room_answer, room_of}
 use Rattle.rules.specs.Answers as A
 use Rattle.rules.specs.Rows.{table_of}
 use Rattle.laws.proofs.Accepted.{tree-of, query_tests-refuse}
@@ -28,29 +33,24 @@ use Rattle.query.specs.Order.{first_answer}
 use Rattle.sizes.specs.Sizes.{bad_count}
 use Rattle.rules.specs.Reader.{tree_of}
 use Rattle.decode.specs.declared.Parts.{Parts}
-use Rattle.std.specs.Prelude.{Result, Ok, Err}
-use Rattle.refusals.specs.Refusals.{answer_of, offset_of, answer_in, offset_in}
-use Rattle.refusals.specs.declared.Refusal.{Refusal}
-use Rattle.refusals.specs.declared.Refusal.TheVariants.{Cut, Misplaced, Unfit, TooDeep, Broken, Nested, TooMany, Doubled, Foreign, BadRows, ShortNotes, ShortTrail, Unfinished, LooksAhead, NoNumber, OutOfOrder}
 use Rattle.judge.specs.declared.Judged.{Judged}
 use Rattle.judge.specs.Judged.{text_tests, text_answer, Judging}
 use Rattle.reading.specs.declared.Query.{Query}
-use Rattle.reading.specs.declared.Size.{Size}
 use Rattle.measure_list.specs.Measures.{MeasureFits}
 use Rattle.table.specs.Measures.{measure_in, measures_in}
 use Rattle.decode.specs.Layout.{Decoded}
 use Rattle.decode.specs.Layout.{DecodeRoom}
-use Rattle.reading.specs.Reading.{known_in, foreign_in, query_answer, refused_query, JudgeRoom, JudgedParts, Nodes, Space, Whole, Asked, as_room}
+use Rattle.reading.specs.Reading.{known_in, foreign_in, query_answer, JudgeRoom, JudgedParts, Space, Whole, Asked, as_room}
 
 -- ---- letters
 
-pub letter-free : (text : List ℕ) (l : ℕ) → l ≡ 0 → true ≡ known_in text l
+pub letter_free : (text : List ℕ) (l : ℕ) → l ≡ 0 → true ≡ known_in text l
 unfolding known_in
-letter-free text l e = rw (e)
+letter_free text l e = rw (e)
 
-pub letter-looked : (text : List ℕ) (l : ℕ) (r : Bool) → (l ≡ 0 → ⊥) → r ≡ has l text → r ≡ known_in text l
+pub letter_looked : (text : List ℕ) (l : ℕ) (r : Bool) → (l ≡ 0 → ⊥) → r ≡ has l text → r ≡ known_in text l
 unfolding known_in
-letter-looked text l r d e = rw (e, ne_eqb l 0 d)
+letter_looked text l r d e = rw (e, ne_eqb l 0 d)
 
 -- ---- the loop over the measures
 
@@ -91,24 +91,24 @@ not-both true b = refl
 not-both false b = refl
 
 module _ (text measures : List ℕ) (count : ℕ) where
-  pub known-none : (target : ℕ) (r : Bool) → r ≡ known_in text target → Known text measures count target 0 r
+  pub known_none : (target : ℕ) (r : Bool) → r ≡ known_in text target → Known text measures count target 0 r
   unfolding every measures_in tabulate
-  known-none target r e = record { within = omega arith; is = e }
+  known_none target r e = record { within = omega arith; is = e }
 
   pub known_more : (target k : ℕ) (known : Bool) (m : Measure) (r : Bool) → Known text measures count target k known → k < count → m ≡ measure_in measures 0 k → r ≡ known_in text m.letter
-      → (both : Bool) → both ≡ (known && r) → Known text measures count target (k + 1) both
+      → Known text measures count target (k + 1) (known && r)
   unfolding measures_in
-  known_more target k known m r i h e q both f =
+  known_more target k known m r i h e q =
       let t : r ≡ known_in text (measure_in measures 0 k).letter = q ∙ ap (λ (m : Measure). known_in text m.letter) e in
       let g : (known && r) ≡ (every (λ (m : Measure). known_in text m.letter) (measures_in measures 0 (k + 1)) && known_in text target) =
       rw (add-one, every_more (λ (m : Measure). known_in text m.letter) (measure_in measures 0) k, i.is, t)
       (swap (every (λ (m : Measure). known_in text m.letter) (measures_in measures 0 k)) (known_in text target) (known_in text (measure_in measures 0 k).letter))
       in
-      record { within = omega arith; is = f ∙ g }
+      record { within = omega arith; is = g }
 
-  pub known-all : (target k : ℕ) (known : Bool) → Known text measures count target k known → count ≤ k → not known ≡ foreign_in text measures count target
+  pub known_all : (target k : ℕ) (known : Bool) → Known text measures count target k known → count ≤ k → not known ≡ foreign_in text measures count target
   unfolding foreign_in
-  known-all target k known i h =
+  known_all target k known i h =
       let e : count ≡ k = omega (arith, i.within) in
       rw (e, i.is) (not-both (every (λ (m : Measure). known_in text m.letter) (measures_in measures 0 k)) (known_in text target))
 
@@ -138,7 +138,7 @@ unfolding query_answer query_tests first_answer first_of all_refuse every refuse
 later s e = first-after (first_tests s) (later_tests s) refl e
 
 -- an answer 1 to 3 is the query's, and has no offset
-pub first-is : (s : List ℕ) → (first_answer s ≡ 0 → ⊥) → first_answer s ≡ query_answer s
+first-is : (s : List ℕ) → (first_answer s ≡ 0 → ⊥) → first_answer s ≡ query_answer s
 unfolding query_answer query_tests first_answer first_of
 first-is s d = sym (first-before (first_tests s) (later_tests s) d)
 
@@ -154,7 +154,7 @@ first-offset s t = go (cut s) (misplaced s) (unfit s)
 
 -- by the pattern's answer: where there is one it is the query's, and where it is 0 DEFINEs and
 -- measures decide
-pub by-text : (s : List ℕ) → first_answer s ≡ 0 → (text_answer (text_of s) ≡ 0 → ⊥) → text_answer (text_of s) ≡ query_answer s
+by-text : (s : List ℕ) → first_answer s ≡ 0 → (text_answer (text_of s) ≡ 0 → ⊥) → text_answer (text_of s) ≡ query_answer s
 unfolding text_answer text_tests too_deep tree_in
 by-text s e d = sym (later s e ∙ first-before (text_tests (text_of s)) (parts_tests s) d)
 
@@ -162,12 +162,12 @@ text-refuses : (t : List ℕ) → all_refuse (text_tests t) ≡ true
 unfolding text_tests all_refuse every refuses
 text-refuses t = refl
 
-pub by_parts : (s : List ℕ) → first_answer s ≡ 0 → text_answer (text_of s) ≡ 0 → query_answer s ≡ pick (doubled s) 8 (pick (foreign s) 9 0)
+by_parts : (s : List ℕ) → first_answer s ≡ 0 → text_answer (text_of s) ≡ 0 → query_answer s ≡ pick (doubled s) 8 (pick (foreign s) 9 0)
 unfolding text_answer text_tests too_deep tree_in first_of
 by_parts s e d = later s e ∙ first-after (text_tests (text_of s)) (parts_tests s) (text-refuses (text_of s)) d
 
 -- a text whose answer is 0 has a tree
-pub has_tree : (s : List ℕ) → text_answer (text_of s) ≡ 0 → (p : Tree pattern) × (tree_in s ≡ some p)
+has_tree : (s : List ℕ) → text_answer (text_of s) ≡ 0 → (p : Tree pattern) × (tree_in s ≡ some p)
 unfolding text_answer text_tests tree_in
 has_tree s d =
     let no = none_true (text_tests (text_of s)) (text-refuses (text_of s)) d in
@@ -231,25 +231,6 @@ target_byte s room measures p j = by (eqb p.target 0) refl j.lettered
     by true d e = let z = eqb-true p.target 0 d in omega arith
     by false d e = let z = leb-true p.target 90 (and_right (leb 65 p.target) (leb p.target 90) e) in omega arith
 
--- a refusal is not 0
-refused_some : (e : Refusal) → answer_of e ≡ 0 → ⊥
-refused_some Cut q = omega arith
-refused_some Misplaced q = omega arith
-refused_some Unfit q = omega arith
-refused_some TooDeep q = omega arith
-refused_some (Broken k) q = omega arith
-refused_some Nested q = omega arith
-refused_some TooMany q = omega arith
-refused_some Doubled q = omega arith
-refused_some Foreign q = omega arith
-refused_some BadRows q = omega arith
-refused_some ShortNotes q = omega arith
-refused_some ShortTrail q = omega arith
-refused_some (Unfinished k) q = omega arith
-refused_some LooksAhead q = omega arith
-refused_some NoNumber q = omega arith
-refused_some OutOfOrder q = omega arith
-
 module _ (s room room' measures : List ℕ) (p : Parts) (j : JudgeRoom s room measures p) (e : ℕ) (w : Result Judged Refusal) (i : e ≡ p.start + p.len)
     (g : Judging (take (e - p.start) (drop p.start s)) room room' w) where
   the_text : take (e - p.start) (drop p.start s) ≡ text_of s
@@ -261,15 +242,15 @@ module _ (s room room' measures : List ℕ) (p : Parts) (j : JudgeRoom s room me
   the_offset : offset_in w ≡ offset_at (text_of s) (answer_in w)
   the_offset = g.offset ∙ ap (λ (t : List ℕ). offset_at t (answer_in w)) the_text
 
-  refused-is : (a k : ℕ) (r : Query) → (a ≡ 0 → ⊥) → a ≡ query_answer s → k ≡ offset_at (text_of s) a → r ≡ refused_query a k → JudgedParts s room' measures p r
-  refused-is a k r d q o b = rw b (record { answer = q; offset = o; good = λ z. absurd (d z) })
+  refused-is : (e : Refusal) → answer_of e ≡ query_answer s → offset_of e ≡ offset_at (text_of s) (answer_of e) → JudgedParts s room' measures p (Err e)
+  refused-is e q o = record { answer = q; offset = o; good = tt }
 
   -- answers 4 to 7 and 14
-  pub text-answers : (f : Refusal) (r : Query) → w ≡ Err f → r ≡ refused_query (answer_of f) (offset_of f) → JudgedParts s room' measures p r
-  text-answers f r q b =
+  pub text_answers : (f : Refusal) → w ≡ Err f → JudgedParts s room' measures p (Err f)
+  text_answers f q =
       let a : answer_of f ≡ text_answer (text_of s) = sym (ap answer_in q) ∙ the_answer in
       let k : offset_of f ≡ offset_at (text_of s) (answer_of f) = sym (ap offset_in q) ∙ the_offset ∙ ap (λ (x : Result Judged Refusal). offset_at (text_of s) (answer_in x)) q in
-      refused-is (answer_of f) (offset_of f) r (refused_some f) (a ∙ by-text s j.clean (λ z. refused_some f (a ∙ z))) k b
+      refused-is f (a ∙ by-text s j.clean (λ z. some_answer f (a ∙ z))) k
 
   module _ (v : Judged) (z : w ≡ Ok v) where
     no-text_answer : 0 ≡ text_answer (text_of s)
@@ -279,9 +260,9 @@ module _ (s room room' measures : List ℕ) (p : Parts) (j : JudgeRoom s room me
     parts-answer = by_parts s j.clean (sym no-text_answer)
 
     -- answer 8
-    pub defines-answer : (r : Query) → p.twice ≡ true → r ≡ refused_query 8 0 → JudgedParts s room' measures p r
+    pub defines_answer : p.twice ≡ true → JudgedParts s room' measures p (Err Doubled)
     unfolding offset_at
-    defines-answer r d b = refused-is 8 0 r (λ x. omega arith) (sym (parts-answer ∙ ap (λ (u : Bool). pick u 8 (pick (foreign s) 9 0)) (sym j.doubled ∙ d))) refl b
+    defines_answer d = refused-is Doubled (sym (parts-answer ∙ ap (λ (u : Bool). pick u 8 (pick (foreign s) 9 0)) (sym j.doubled ∙ d))) refl
 
     tree_is : (t : Tree pattern) × (tree_in s ≡ some t)
     tree_is = has_tree s (sym no-text_answer)
@@ -295,24 +276,24 @@ module _ (s room room' measures : List ℕ) (p : Parts) (j : JudgeRoom s room me
     both u d f = parts-answer ∙ ap (λ (x : Bool). pick x 8 (pick (foreign s) 9 0)) (sym j.doubled ∙ d) ∙ ap (λ (x : Bool). pick x 9 0) (foreign-by ∙ sym f)
 
     -- answer 9
-    pub letters-answer : (r : Query) (u : Bool) → p.twice ≡ false → u ≡ foreign_in (take (e - p.start) (drop p.start s)) measures p.measures p.target → u ≡ true
-        → r ≡ refused_query 9 0 → JudgedParts s room' measures p r
+    pub letters_answer : (u : Bool) → p.twice ≡ false → u ≡ foreign_in (take (e - p.start) (drop p.start s)) measures p.measures p.target → u ≡ true
+        → JudgedParts s room' measures p (Err Foreign)
     unfolding offset_at
-    letters-answer r u d f y b = refused-is 9 0 r (λ x. omega arith) (sym (both u d f ∙ ap (λ (x : Bool). pick x 9 0) y)) refl b
+    letters_answer u d f y = refused-is Foreign (sym (both u d f ∙ ap (λ (x : Bool). pick x 9 0) y)) refl
 
     good : Judging (take (e - p.start) (drop p.start s)) room room' (Ok v)
     good = subst (Judging (take (e - p.start) (drop p.start s)) room room') z g
 
     -- none of them
     pub no_answer : (u : Bool) → p.twice ≡ false → u ≡ foreign_in (take (e - p.start) (drop p.start s)) measures p.measures p.target → u ≡ false
-        → JudgedParts s room' measures p (record { answer = 0; offset = 0; places = v.places; factor = v.factor; top = v.top; columns = p.columns; skip = p.skip; target = p.target; measures = p.measures; letters = p.letters })
+        → JudgedParts s room' measures p (Ok (record { places = v.places; factor = v.factor; top = v.top; columns = p.columns; skip = p.skip; target = p.target; measures = p.measures; letters = p.letters }))
     unfolding tree_in offset_at
     no_answer u d f y =
         record {
           answer = sym (both u d f ∙ ap (λ (x : Bool). pick x 9 0) y);
           offset = refl;
           good =
-              λ _. record {
+              record {
                 tree = tree_is.0;
                 is = tree_is.1;
                 places = good.places ∙ ap (λ (t : List ℕ). P (tree_of t)) the_text;
@@ -326,30 +307,46 @@ module _ (s room room' measures : List ℕ) (p : Parts) (j : JudgeRoom s room me
               };
         }
 
+-- what the proof of `judge_parts` cites
+pub ruleset judges = (target_byte, text_answers, defines_answer, letters_answer, no_answer)
+
 -- ---- reading a query
+
+abbrev first_by : Bool → Bool → Bool → ℕ
+first_by a b c = pick a 1 (pick b 2 (pick c 3 0))
+
+-- an answer 1 to 3 is 3 where it is neither 1 nor 2
+pub third : (s : List ℕ) → (first_answer s ≡ 0 → ⊥) → (first_answer s ≡ 1 → ⊥) → (first_answer s ≡ 2 → ⊥) → first_answer s ≡ 3
+unfolding first_answer
+third s = go (cut s) (misplaced s) (unfit s)
+  where
+    go : (a b c : Bool) → (first_by a b c ≡ 0 → ⊥) → (first_by a b c ≡ 1 → ⊥) → (first_by a b c ≡ 2 → ⊥) → first_by a b c ≡ 3
+    go true b c x y z = absurd (y refl)
+    go false true c x y z = absurd (z refl)
+    go false false true x y z = refl
+    go false false false x y z = absurd (x refl)
 
 module _ (s measures₀ : List ℕ) where
   -- answers 1 to 3
-  pub first-answers : (room defines measures : List ℕ) (a : ℕ) (r : Query) → a ≡ first_answer s → (a ≡ 0 → ⊥) → r ≡ refused_query a 0
-      → Asked s measures₀ room defines measures r
-  first-answers room defines measures a r e d b =
-      rw b (record {
-        answer = e ∙ first-is s (λ z. d (e ∙ z));
-        offset = sym (ap (offset_at (text_of s)) e ∙ first-offset s (text_of s));
-        good = λ z. absurd (d z);
-      })
+  pub first_answers : (room defines measures : List ℕ) (e : Refusal) → answer_of e ≡ first_answer s → offset_of e ≡ 0 → Asked s measures₀ room defines measures (Err e)
+  first_answers room defines measures e a o =
+      record {
+        answer = a ∙ first-is s (λ z. some_answer e (a ∙ z));
+        offset = o ∙ sym (ap (offset_at (text_of s)) a ∙ first-offset s (text_of s));
+        good = tt;
+      }
 
   -- what decoding asks
-  pub may_decode : (room : List ℕ) (a : ℕ) → Space s room measures₀ → a ≡ first_answer s → a ≡ 0 → DecodeRoom s measures₀
-  may_decode room a p e z = record { clean = sym e ∙ z; long = p.long }
+  pub may_decode : (room : List ℕ) → Space s room measures₀ → first_answer s ≡ 0 → DecodeRoom s measures₀
+  may_decode room p z = record { clean = z; long = p.long }
 
   -- and judging
-  pub may_judge : (room defines measures : List ℕ) (p : Parts) (a : ℕ)
-      → Decoded s measures₀ defines measures p → Nodes s room → a ≡ first_answer s → a ≡ 0 → JudgeRoom s room measures p
+  pub may_judge : (room defines measures : List ℕ) (p : Parts)
+      → Decoded s measures₀ defines measures p → Space s room measures₀ → first_answer s ≡ 0 → JudgeRoom s room measures p
   unfolding parts
-  may_judge room defines measures p a d l e z =
+  may_judge room defines measures p d sp z =
       record {
-        clean = sym e ∙ z;
+        clean = z;
         text = d.text;
         inside = d.inside;
         short = d.short;
@@ -359,15 +356,17 @@ module _ (s measures₀ : List ℕ) where
         target = d.target;
         lettered = d.lettered;
         doubled = d.doubled;
-        space = let i = d.inside in let q : length (text_of s) ≡ p.len = ap length (sym d.text) ∙ simp (length-take, length-drop) (omega arith) in omega (arith, l.enough (sym e ∙ z));
+        space = let i = d.inside in let q : length (text_of s) ≡ p.len = ap length (sym d.text) ∙ simp (length-take, length-drop) (omega arith) in omega (arith, sp.nodes.enough z);
       }
 
   -- all of them
-  pub all_answers : (room defines measures : List ℕ) (p : Parts) (r : Query)
+  pub all_answers : (room defines measures : List ℕ) (p : Parts) (r : Result Query Refusal)
       → Decoded s measures₀ defines measures p → JudgedParts s room measures p r
       → Asked s measures₀ room defines measures r
-  all_answers room defines measures p r d g =
-      record { answer = g.answer; offset = g.offset; good = λ z. record { parts = p; decoded = d; good = g.good z } }
+  all_answers room defines measures p (Ok q) d g = record { answer = g.answer; offset = g.offset; good = record { parts = p; decoded = d; good = g.good } }
+  all_answers room defines measures p (Err e) d g = record { answer = g.answer; offset = g.offset; good = tt }
+
+pub ruleset reads = (first_answers, may_decode, may_judge, all_answers)
 
 -- ---- how much to lend
 
@@ -380,8 +379,7 @@ room-by_rows : (q : List ℕ) (bad : Bool) → query_answer q ≡ 0 → room_ans
 unfolding room_answer query_answer first_of
 room-by_rows q bad e = first-after (query_tests q) ((10, bad) ∷ []) (query_tests-refuse q) e
 
-module _ (q measures₀ room defines measures : List ℕ) (r : Query)
-    (a : Asked q measures₀ room defines measures r) (rows : List ℤ) where
+module _ (q : List ℕ) (rows : List ℤ) where
   abbrev refused_room : ℕ → A.Room
   refused_room n = record { answer = n; places = 0; rows = 0; offset = offset_at (text_of q) n; factor = 0 }
 
@@ -389,39 +387,40 @@ module _ (q measures₀ room defines measures : List ℕ) (r : Query)
   unfolding room_of
   room-not n d e = rw (e, ne_eqb n 0 d)
 
-  pub query_refuses : (x : Size) → (r.answer ≡ 0 → ⊥) → x ≡ record { answer = r.answer; places = 0; rows = 0; offset = r.offset; factor = 0 } → as_room x ≡ room_of q rows
-  query_refuses x d e =
-      ap as_room (e ∙ ap (λ (k : ℕ). record { answer = r.answer; places = 0; rows = 0; offset = k; factor = 0 }) a.offset) ∙ room-not r.answer d (room-refused q (bad_rows q rows) (λ z. d (a.answer ∙ z)) ∙ sym a.answer)
+module _ (q measures₀ room defines measures : List ℕ) (rows : List ℤ) where
+  pub query_refuses : (e : Refusal) → Asked q measures₀ room defines measures (Err e) → as_room (Err e) ≡ room_of q rows
+  query_refuses e a =
+      ap (λ (k : ℕ). record { answer = answer_of e; places = 0; rows = 0; offset = k; factor = 0 }) a.offset
+      ∙ room-not q rows (answer_of e) (some_answer e) (room-refused q (bad_rows q rows) (λ z. some_answer e (a.answer ∙ z)) ∙ sym a.answer)
 
-  module _ (z : r.answer ≡ 0) where
+  module _ (r : Query) (a : Asked q measures₀ room defines measures (Ok r)) where
     abbrev whole : Whole q measures₀ room defines measures r
-    whole = a.good z
+    whole = a.good
 
     the_columns : r.columns ≡ columns_of q
     unfolding parts
     the_columns = whole.good.columns ∙ whole.decoded.columns
 
-    pub some-column : 1 ≤ r.columns
-    some-column = omega (arith, whole.decoded.some, whole.good.columns)
+    pub some_column : 1 ≤ r.columns
+    some_column = omega (arith, whole.decoded.some, whole.good.columns)
 
     rows-answer : room_answer q (bad_rows q rows) ≡ pick (bad_rows q rows) 10 0
-    rows-answer = room-by_rows q (bad_rows q rows) (sym a.answer ∙ z)
-
-    ten : bad_rows q rows ≡ true → refused_room 10 ≡ room_of q rows
-    ten t = room-not 10 (λ e. omega arith) (rows-answer ∙ ap (λ (b : Bool). pick b 10 0) t)
+    rows-answer = room-by_rows q (bad_rows q rows) (sym a.answer)
 
     -- answer 10 by numbers
     pub bad-rows : bad_rows q rows ≡ bad_count (length rows) r.columns
     unfolding bad_rows bad_count table_of
     bad-rows = rw (← the_columns)
 
-    pub rows-refused : (x : Size) (t : Bool) → t ≡ bad_count (length rows) r.columns → t ≡ true → x ≡ record { answer = 10; places = 0; rows = 0; offset = 0; factor = 0 } → as_room x ≡ room_of q rows
+    pub rows_refused : (e : Refusal) → (bad_count (length rows) r.columns ≡ true) × (e ≡ BadRows) → as_room (Err e) ≡ room_of q rows
     unfolding offset_at
-    rows-refused x t e f i = ap as_room i ∙ ten (bad-rows ∙ sym e ∙ f)
+    rows_refused e h = rw (h.1) (room-not q rows 10 (λ e. omega arith) (rows-answer ∙ ap (λ (b : Bool). pick b 10 0) (bad-rows ∙ h.0)))
 
-    pub room-given : (t : Bool) → t ≡ bad_count (length rows) r.columns → t ≡ false
-        → as_room (record { answer = 0; places = r.places; rows = length rows / r.columns; offset = 0; factor = r.factor }) ≡ room_of q rows
+    pub room_given : (n : ℕ) → (bad_count (length rows) r.columns ≡ false) × (n ≡ length rows / r.columns)
+        → as_room (Ok (record { places = r.places; rows = n; factor = r.factor })) ≡ room_of q rows
     unfolding table_of room_of
-    room-given t e f =
-        let x : room_answer q (bad_rows q rows) ≡ 0 = rows-answer ∙ ap (λ (b : Bool). pick b 10 0) (bad-rows ∙ sym e ∙ f) in
-        rw (x, ← the_columns, ← whole.good.places, ← whole.good.factor)
+    room_given n h =
+        let x : room_answer q (bad_rows q rows) ≡ 0 = rows-answer ∙ ap (λ (b : Bool). pick b 10 0) (bad-rows ∙ h.0) in
+        rw (x, h.1, ← the_columns, ← whole.good.places, ← whole.good.factor)
+
+pub ruleset sizes = (query_refuses, some_column, rows_refused, room_given)

@@ -2,7 +2,7 @@
 -- and behind it stands the second, the text. So its length is in bytes 6 and 7 (`text-length`), and
 -- a room for the tree is large enough by it.
 use mathlib.Core.Path.{◌≡◌, refl, ap, sym, ◌∙◌}
-use mathlib.Core.Bool.{Bool, true, false}
+use mathlib.Core.Bool.{true, false}
 use mathlib.Core.List.{List}
 use Prim.Native.Nat.{ℕ, ◌+◌, ◌*◌, ◌≤◌, ◌<◌}
 use native.Mathlib.Omega.{arith}
@@ -62,14 +62,16 @@ module _ (s : List ℕ) (clean : first_answer s ≡ 0) where
 
 -- ---- room for the tree of every query, and of one whose text is short
 
-pub all_nodes : (s room : List ℕ) → length room ≡ 4096 → Nodes s room
-all_nodes s room l = record { enough = λ e. omega (arith, text-at_most s e) }
+pub all_nodes : (s : List ℕ) → Nodes s 4096
+all_nodes s = record { enough = λ e. omega (arith, text-at_most s e) }
 
-pub short_nodes : (s room : List ℕ) (t : Bool) → t ≡ short_text s → t ≡ true → length room ≡ 256 → Nodes s room
+pub short_nodes : (s : List ℕ) → short_text s ≡ true → Nodes s 256
 unfolding short_text
-short_nodes s room t q e l =
-    let h : text_length s ≤ 16 = leb-true (text_length s) 16 (and_right (leb 8 (length s)) (leb (text_length s) 16) (sym q ∙ e)) in
+short_nodes s e =
+    let h : text_length s ≤ 16 = leb-true (text_length s) 16 (and_right (leb 8 (length s)) (leb (text_length s) 16) e) in
     record { enough = λ z. omega (arith, text-length s z) }
+
+pub ruleset nodes = (all_nodes, short_nodes)
 
 -- ---- the ways through `text_is_short`
 

@@ -2,7 +2,7 @@
 -- where it is 0 the pattern's tree in the lent words, and in the lent arrays where the DEFINE of
 -- each letter stands in the query and the measures (decode's specs/Layout says how); and how much
 -- to lend.
-use Rattle.std.specs.Prelude.{◌≡◌, Bool, true, not, ◌&&◌, ◌||◌, List, ℕ, ◌+◌, ◌*◌, ◌≤◌, ◌<◌, eqb, leb, length, take, drop}
+use Rattle.std.specs.Prelude.{◌≡◌, Result, Ok, Err, IfOk, Bool, true, not, ◌&&◌, ◌||◌, ◌⊎◌, List, ℕ, ◌+◌, ◌*◌, ◌≤◌, ◌<◌, eqb, leb, length, take, drop}
 use Rattle.std.proofs.Math.Option.{some}
 use Rattle.rules.specs.Basics.{is_letter, every, has, le16}
 use Rattle.rules.specs.Query.{Measure, doubled, text_of, parts}
@@ -10,6 +10,8 @@ use Rattle.query.specs.Order.{first_answer}
 use Rattle.rules.specs.Language.{Tree, pattern}
 use Rattle.rules.specs.Answers as A
 use Rattle.rules.specs.Answers.{first_of, query_tests, offset_at, tree_in, P, F}
+use Rattle.refusals.specs.Refusals.{answer_of, offset_of, answer_in, offset_in}
+use Rattle.refusals.specs.declared.Refusal.{Refusal}
 use Rattle.trees.specs.Held.{Top}
 use Rattle.measure_list.specs.Measures.{MeasureFits}
 use Rattle.table.specs.Measures.{measure_in, measures_in}
@@ -32,9 +34,6 @@ foreign_in text measures count target = not (every (λ (m : Measure). known_in t
 unfoldable pub query_answer : List ℕ → ℕ
 unfolding first_of query_tests
 query_answer s = first_of (query_tests s)
-
-abbrev pub refused_query : ℕ → ℕ → Query
-refused_query a k = record { answer = a; offset = k; places = 0; factor = 0; top = 0; columns = 0; skip = 0; target = 0; measures = 0; letters = 0 }
 
 -- what judging the parts asks: the query has no answer 1 to 3, the parts and measures are the
 -- query's, the letter that the skip names is 0 or A to Z, it is told whether two DEFINEs are for
@@ -65,10 +64,10 @@ pub record GoodParts (s room : List ℕ) (p : Parts) (r : Query) : Type 0 where
   pub measured : r.measures ≡ p.measures
   pub letters : r.letters ≡ p.letters
 
-pub record JudgedParts (s room measures : List ℕ) (p : Parts) (r : Query) : Type 0 where
-  pub answer : r.answer ≡ query_answer s
-  pub offset : r.offset ≡ offset_at (text_of s) r.answer
-  pub good : r.answer ≡ 0 → GoodParts s room p r
+pub record JudgedParts (s room measures : List ℕ) (p : Parts) (r : Result Query Refusal) : Type 0 where
+  pub answer : answer_in r ≡ query_answer s
+  pub offset : offset_in r ≡ offset_at (text_of s) (answer_in r)
+  pub good : IfOk r (GoodParts s room p)
 
 -- a query with no answer: its tree stands in the room, and its parts in the arrays
 pub record Whole (s measures₀ room defines measures : List ℕ) (r : Query) : Type 0 where
@@ -76,9 +75,10 @@ pub record Whole (s measures₀ room defines measures : List ℕ) (r : Query) : 
   pub decoded : Decoded s measures₀ defines measures parts
   pub good : GoodParts s room parts r
 
--- words for the pattern's tree: 16 for each byte of its text, where the query has no answer 1 to 3
-pub record Nodes (s room : List ℕ) : Type 0 where
-  pub enough : first_answer s ≡ 0 → 16 * length (text_of s) ≤ length room
+-- so many words are enough for the pattern's tree: 16 for each byte of its text, where the query
+-- has no answer 1 to 3
+pub record Nodes (s : List ℕ) (words : ℕ) : Type 0 where
+  pub enough : first_answer s ≡ 0 → 16 * length (text_of s) ≤ words
 
 -- the length of the pattern's text, as bytes 6 and 7 say it: in a query with no answer 1 to 3 the
 -- first record has 6 bytes, and the second begins with its body's length
@@ -93,15 +93,16 @@ short_text s = leb 8 (length s) && leb (text_length s) 16
 
 -- what reading a query is lent: such words, and room for the measures
 pub record Space (s room measures : List ℕ) : Type 0 where
-  pub nodes : Nodes s room
+  pub nodes : Nodes s (length room)
   pub long : length measures ≡ 24
 
 -- what `read_query` promises
-pub record Asked (s measures₀ room defines measures : List ℕ) (r : Query) : Type 0 where
-  pub answer : r.answer ≡ query_answer s
-  pub offset : r.offset ≡ offset_at (text_of s) r.answer
-  pub good : r.answer ≡ 0 → Whole s measures₀ room defines measures r
+pub record Asked (s measures₀ room defines measures : List ℕ) (r : Result Query Refusal) : Type 0 where
+  pub answer : answer_in r ≡ query_answer s
+  pub offset : offset_in r ≡ offset_at (text_of s) (answer_in r)
+  pub good : IfOk r (Whole s measures₀ room defines measures)
 
 -- the room that a caller is told, as the rules have it
-abbrev pub as_room : Size → A.Room
-as_room r = record { answer = r.answer; places = r.places; rows = r.rows; offset = r.offset; factor = r.factor }
+abbrev pub as_room : Result Size Refusal → A.Room
+as_room (Ok z) = record { answer = 0; places = z.places; rows = z.rows; offset = 0; factor = z.factor }
+as_room (Err e) = record { answer = answer_of e; places = 0; rows = 0; offset = offset_of e; factor = 0 }

@@ -1,16 +1,14 @@
 // What reading a query comes to, letters that its pattern does not name, and how long its text is.
 #![tactic(auto)]
 
-ghost use Rattle.std.specs.Prelude.{◌≡◌, ◌&&◌, ◌≤◌, ◌<◌};
-ghost use Rattle.reading.specs.Reading.{known_in, foreign_in, refused_query, short_text};
+ghost use Rattle.std.specs.Prelude.{◌≡◌, ◌≤◌, ◌<◌};
+ghost use Rattle.reading.specs.Reading.{known_in, foreign_in, short_text};
 
-// What a query asks: its answer 1 to 9 or 14, with the offset of 5 and 14, or 0; where it is 0, P,
-// F, the top node of its pattern's tree, and its parts, with the letter that the skip names (0 for
-// none) and a number from which on no letter has a DEFINE.
+// What a query with no answer of its own asks: P, F, the top node of its pattern's tree, and its
+// parts, with the letter that the skip names (0 for none) and a number from which on no letter has a
+// DEFINE.
 #[derive(Clone, Copy)]
 pub struct Query {
-    pub answer: usize,
-    pub offset: usize,
     pub places: usize,
     pub factor: usize,
     pub top: usize,
@@ -21,18 +19,17 @@ pub struct Query {
     pub letters: usize,
 }
 
-// How much to lend: the answer 1 to 10 or 14, with the offset of 5 and 14, or 0 with P, n and F.
+// How much to lend: P, n and F.
 #[derive(Clone, Copy)]
 pub struct Size {
-    pub answer: usize,
     pub places: usize,
     pub rows: usize,
-    pub offset: usize,
     pub factor: usize,
 }
 
 // Whether the letter of a measure or of the skip stands in the pattern's text, or is 0: for all
 // rows, or for none.
+#[tactic(auto, using(crate::proofs::Laws::letter_free, crate::proofs::Laws::letter_looked))]
 fn is_known(text: &[u8], letter: u8) -> bool
     ensures { result ≡ known_in text.now letter }
 {
@@ -42,60 +39,20 @@ fn is_known(text: &[u8], letter: u8) -> bool
     scan::has_byte(text, letter)
 }
 
-fn both(a: bool, b: bool) -> bool
-    ensures { result ≡ (a && b) }
-{
-    if a {
-        return b;
-    }
-    false
-}
-
 // Whether some measure's letter, or the letter that the skip names, does not stand in the pattern's
 // text. The loop goes over all measures: leaving it at the first such letter makes every turn
 // longer.
+#[tactic(auto, using(crate::proofs::Laws::known_all))]
 pub fn has_foreign(text: &[u8], measures: &[u8; 24], count: usize, target: usize) -> bool
     requires { (count ≤ 8) × (target < 256) }
     ensures { result ≡ foreign_in text.now measures.now count target }
 {
-    let letter = target as u8;
-    let mut known = is_known(text, letter);
-    let mut k = 0;
-    while k < count {
+    let mut known = is_known(text, target as u8);
+    for k in 0..count {
         let m = measure_list::measure_at(measures, k);
-        known = both(known, is_known(text, m.letter));
-        k += 1;
+        known &= is_known(text, m.letter);
     }
     !known
-}
-
-pub fn refused(answer: usize, offset: usize) -> Query
-    ensures { result ≡ refused_query answer offset }
-{
-    Query {
-        answer,
-        offset,
-        places: 0,
-        factor: 0,
-        top: 0,
-        columns: 0,
-        skip: 0,
-        target: 0,
-        measures: 0,
-        letters: 0,
-    }
-}
-
-pub fn no_room(answer: usize, offset: usize) -> Size
-    ensures { result ≡ record { answer = answer; places = 0; rows = 0; offset = offset; factor = 0 } }
-{
-    Size {
-        answer,
-        places: 0,
-        rows: 0,
-        offset,
-        factor: 0,
-    }
 }
 
 // Whether the pattern's text is short: in a query with no answer 1 to 3 the first record has 6

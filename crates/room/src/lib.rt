@@ -1,70 +1,78 @@
-// A query read whole (`read_query`): its answer 1 to 9 or 14, with its offset, or 0, the tree of
-// its pattern in lent words, and in lent arrays where the DEFINE of each letter stands in the query
+// A query read whole (`read_query`): refused with an answer 1 to 9 or 14, or the tree of its
+// pattern in lent words, and in lent arrays where the DEFINE of each letter stands in the query
 // and the measures; and how much a caller has to lend for it on some rows (`room`). Comparisons
 // stay in the query's bytes. For all bytes and rows; the promises are equations with document 01's
 // definitions.
 #![tactic(auto)]
 
-ghost use Rattle.std.specs.Prelude.{◌≡◌};
+ghost use Rattle.std.specs.Prelude.{◌≡◌, ◌≤◌};
+ghost use Rattle.refusals.specs.Refusals.{answer_in, offset_in};
+ghost use Rattle.query.specs.Order.{first_answer};
 ghost use Rattle.rules.specs.Answers.{room_of};
 ghost use Rattle.reading.specs.Reading.{Nodes, Space, Asked, as_room};
 
 use part_answers::judge_parts;
-use reading::{Query, Size, no_room, refused, text_is_short};
+use reading::{Query, Size, text_is_short};
+use refusals::Refusal;
+
+// Answers 1 to 3.
+#[tactic(auto, using(reading::proofs::Laws::third))]
+fn first_refusal(s: &[u8]) -> Result<(), Refusal>
+    ensures answer { answer_in result ≡ first_answer s.now }
+    ensures offset { offset_in result ≡ 0 }
+{
+    match query::first_answer(s) {
+        0 => Ok(()),
+        1 => Err(Refusal::Cut),
+        2 => Err(Refusal::Misplaced),
+        _ => Err(Refusal::Unfit),
+    }
+}
 
 // Reads a query.
+#[tactic(auto, using(reading::proofs::Laws::reads))]
 pub fn read_query(
     s: &[u8],
     room: &mut [u16],
     defines: &mut [usize; 26],
     measures: &mut [u8; 24],
-) -> Query
+) -> Result<Query, Refusal>
     requires { Space s.now room.old measures.old }
     ensures { Asked s.now measures.old room.new defines.new measures.new result }
 {
-    let first = query::first_answer(s);
-    if first != 0 {
-        return refused(first, 0);
-    }
+    first_refusal(s)?;
     let parts = decode::decode(s, defines, measures);
     judge_parts(s, parts, room, measures)
 }
 
 // How much a query needs on these rows, with room for the tree of its pattern.
-fn room_in(nodes: &mut [u16], query: &[u8], rows: &[i32]) -> Size
-    requires { Nodes query.now nodes.old }
+#[tactic(auto, using(reading::proofs::Laws::sizes))]
+fn room_in<const NODES: usize>(query: &[u8], rows: &[i32]) -> Result<Size, Refusal>
+    requires nodes { Nodes query.now NODES }
+    requires few { NODES ≤ 4096 }
     ensures { as_room result ≡ room_of query.now rows.now }
 {
+    let mut nodes = [0u16; NODES];
     let mut defines = [0usize; 26];
     let mut measures = [0u8; 24];
-    let q = read_query(query, nodes, &mut defines, &mut measures);
-    let answer = q.answer;
-    if answer != 0 {
-        return no_room(answer, q.offset);
-    }
-    let columns = q.columns;
-    if sizes::bad_rows(rows.len(), columns) {
-        return no_room(10, 0);
-    }
-    let n = rows.len() / columns;
-    Size {
-        answer: 0,
+    let q = read_query(query, &mut nodes, &mut defines, &mut measures)?;
+    let rows = sizes::rows_of(rows.len(), q.columns)?;
+    Ok(Size {
         places: q.places,
-        rows: n,
-        offset: 0,
+        rows,
         factor: q.factor,
-    }
+    })
 }
 
 // How much a query needs on these rows. A short text gets a small room for its tree, since clearing
 // a large one takes time.
-pub fn room(query: &[u8], rows: &[i32]) -> Size
+#[tactic(auto, using(reading::proofs::Short::nodes))]
+pub fn room(query: &[u8], rows: &[i32]) -> Result<Size, Refusal>
     ensures { as_room result ≡ room_of query.now rows.now }
 {
     if text_is_short(query) {
-        let mut nodes = [0u16; 256];
-        return room_in(&mut nodes, query, rows);
+        room_in::<256>(query, rows)
+    } else {
+        room_in::<4096>(query, rows)
     }
-    let mut nodes = [0u16; 4096];
-    room_in(&mut nodes, query, rows)
 }

@@ -32,8 +32,6 @@ use Rattle.laws.proofs.Demands.{search_accepted}
 use Rattle.laws.proofs.Level.{or-false}
 use Rattle.laws.proofs.FirstTrue.{all_refuse, first-after, none_before, none_true}
 use Rattle.laws.proofs.Limits.{limits, numbers_long}
-use Rattle.reading.specs.declared.Size.{Size}
-use Rattle.reading.specs.Reading.{as_room}
 use Rattle.put.specs.declared.Out.{Out}
 use Rattle.put.specs.Put.{Wrote}
 use Rattle.input.specs.declared.Verdict.{Verdict}
@@ -96,8 +94,7 @@ above : (n : ℕ) → (n ≡ 0 → ⊥) → 0 < n
 above zero d = absurd (d refl)
 above (suc n) d = omega arith
 
--- ---- the ways of a query with its row bytes r: their whole numbers are the first k of an array,
--- and z is what `room` says of the query and of these
+-- ---- the ways of a query with its row bytes r: their whole numbers are the first k of an array
 
 module _ (r : List ℕ) (l array : List ℤ) (k : ℕ) (filled : array ≡ wrote l 0 (rows_of r)) (counted : k ≡ length (rows_of r)) where
   same : take k array ≡ rows_of r
@@ -112,17 +109,17 @@ module _ (r : List ℕ) (l array : List ℤ) (k : ℕ) (filled : array ≡ wrote
   rows_long = counted ∙ sym (ap length same)
 
 -- what `room` says: all sizes and no answer, or an answer and zeros
-data Roomed (q : List ℕ) (rows : List ℤ) (z : Size) : Type 0 where
+data Roomed (q : List ℕ) (rows : List ℤ) (z : Room) : Type 0 where
   accepted_room : room_answer q (bad_rows q rows) ≡ 0 → z.answer ≡ 0 → z.places ≡ P (tree_in q) → z.factor ≡ F (tree_in q) → z.rows ≡ (table_of (columns_of q) rows).n → Roomed q rows z
   refused_room_lem : z.answer ≡ room_answer q (bad_rows q rows) → 0 < room_answer q (bad_rows q rows) → z.places ≡ 0 → z.factor ≡ 0 → z.rows ≡ 0 → Roomed q rows z
 
-module _ (q : List ℕ) (rows : List ℤ) (z : Size) (e : as_room z ≡ room_of q rows) where
+module _ (q : List ℕ) (rows : List ℤ) (z : Room) (e : z ≡ room_of q rows) where
   roomed : Roomed q rows z
   unfolding room_of
   roomed = go (room_answer q (bad_rows q rows)) refl (eqb (room_answer q (bad_rows q rows)) 0) refl e
     where
       go : (a : ℕ) → room_answer q (bad_rows q rows) ≡ a → (t : Bool) → eqb a 0 ≡ t
-          → as_room z ≡ pick t (record { answer = 0; places = P (tree_in q); factor = F (tree_in q); rows = (table_of (columns_of q) rows).n; offset = 0 })
+          → z ≡ pick t (record { answer = 0; places = P (tree_in q); factor = F (tree_in q); rows = (table_of (columns_of q) rows).n; offset = 0 })
           (record { answer = a; places = 0; factor = 0; rows = 0; offset = offset_at (text_of q) a }) → Roomed q rows z
       go a h true g e =
           accepted_room (h ∙ eqb-true a 0 g) (ap (λ (z : Room). z.answer) e) (ap (λ (z : Room). z.places) e) (ap (λ (z : Room). z.factor) e) (ap (λ (z : Room). z.rows) e)
@@ -130,8 +127,8 @@ module _ (q : List ℕ) (rows : List ℤ) (z : Size) (e : as_room z ≡ room_of 
           refused_room_lem (ap (λ (z : Room). z.answer) e ∙ sym h) (rw h (above a (eqb-false a 0 g))) (ap (λ (z : Room). z.places) e) (ap (λ (z : Room). z.factor) e) (ap (λ (z : Room). z.rows) e)
 
   -- the number of pairs can be computed
-  pub room-rows : Fits w64 (z.rows + 1)
-  room-rows = go roomed
+  pub room_rows : Fits w64 (z.rows + 1)
+  room_rows = go roomed
     where
       go : Roomed q rows z → Fits w64 (z.rows + 1)
       go (accepted_room ok a p v n) = record { fits = omega (arith, n, few_rows q rows ok) }
@@ -144,11 +141,11 @@ module _ (q : List ℕ) (rows : List ℤ) (z : Size) (e : as_room z ≡ room_of 
       go (accepted_room ok a p v n) = mul-le-mul (let hp : z.places ≤ 256 = omega (arith, p, few_places q rows ok) in hp) (let hf : z.factor ≤ 8 = omega (arith, v, few_values q rows ok) in hf)
       go (refused_room_lem a h p v n) = mul-le-mul (let hp : z.places ≤ 256 = omega arith in hp) (let hf : z.factor ≤ 8 = omega arith in hf)
 
-  pub room-entries : Fits w64 (z.places * z.factor)
-  room-entries = record { fits = omega (arith, few_entries) }
+  pub room_entries : Fits w64 (z.places * z.factor)
+  room_entries = record { fits = omega (arith, few_entries) }
 
-  pub room-pairs : Fits w64 (z.places * z.factor * (z.rows + 1))
-  room-pairs = go roomed
+  pub room_pairs : Fits w64 (z.places * z.factor * (z.rows + 1))
+  room_pairs = go roomed
     where
       go : Roomed q rows z → Fits w64 (z.places * z.factor * (z.rows + 1))
       go (accepted_room ok a p v n) =
@@ -161,19 +158,16 @@ module _ (q : List ℕ) (rows : List ℤ) (z : Size) (e : as_room z ≡ room_of 
           record { fits = omega arith }
 
   -- the verdict on these numbers is the definition's
-  same-verdict : (bytes : ℕ) → input_verdict z.answer bytes (z.places * z.factor * (z.rows + 1)) ≡ input_verdict (room_answer q (bad_rows q rows)) bytes (pairs_of q rows)
+  pub same_verdict : (bytes : ℕ) → input_verdict z.answer bytes (z.places * z.factor * (z.rows + 1)) ≡ input_verdict (room_answer q (bad_rows q rows)) bytes (pairs_of q rows)
   unfolding pairs_of
-  same-verdict bytes = go roomed
+  same_verdict bytes = go roomed
     where
       go : Roomed q rows z → input_verdict z.answer bytes (z.places * z.factor * (z.rows + 1)) ≡ input_verdict (room_answer q (bad_rows q rows)) bytes (pairs_of q rows)
       go (accepted_room ok a p v n) = rw (a, ok, p, v, n, add-one)
       go (refused_room_lem a h p v n) = rw a (pairs-spared (room_answer q (bad_rows q rows)) bytes (z.places * z.factor * (z.rows + 1)) (pairs_of q rows) h)
 
-module _ (q r : List ℕ) (l array : List ℤ) (k : ℕ) (filled : array ≡ wrote l 0 (rows_of r)) (counted : k ≡ length (rows_of r)) (z : Size) (e : as_room z ≡ room_of q (take k array))
-    (v : Verdict) (given : v ≡ input_verdict z.answer (length r) (z.places * z.factor * (z.rows + 1))) where
-  verdict_is : v ≡ input_verdict (room_answer q (bad_rows q (take k array))) (length r) (pairs_of q (take k array))
-  verdict_is = given ∙ same-verdict q (take k array) z e (length r)
-
+module _ (q r : List ℕ) (l array : List ℤ) (k : ℕ) (filled : array ≡ wrote l 0 (rows_of r)) (counted : k ≡ length (rows_of r))
+    (v : Verdict) (verdict_is : v ≡ input_verdict (room_answer q (bad_rows q (take k array))) (length r) (pairs_of q (take k array))) where
   prints : (w : Verdict) → v ≡ w → printed_for q r ≡ printed_verdict w q r
   prints w h =
       let i : v ≡ input_verdict (room_answer q (bad_rows q (rows_of r))) (length r) (pairs_of q (rows_of r)) = rw (← (same r l array k filled counted)) verdict_is in

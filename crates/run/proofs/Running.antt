@@ -10,6 +10,10 @@ use lib.Dec.{eqb}
 use lib.IntN.{ℤ}
 use lib.ListN.{length, take, drop, length-take, length-drop}
 use lib.Seq.{take_all}
+use Rattle.std.specs.Prelude.{Ok, Err}
+use Rattle.refusals.specs.declared.Refusal.{Refusal}
+use Rattle.refusals.proofs.Numbers.{some_answer}
+use Rattle.rules.specs.Query.{parts}
 use Rattle.rules.specs.Answers.{task_of, walked, Buffers, Memory, refusal, search_of}
 use Rattle.rules.specs.Program.{refused_text, too_large, search_text, printed_for, printed}
 use Rattle.laws.proofs.Lists.{length-tabulate}
@@ -33,14 +37,16 @@ use Rattle.run.proofs.Joined.{room-accepts, no-query_answer, search_numbers, sea
 -- ---- the measures
 
 pub measures_counted : (q measures₀ room defines measures : List ℕ) (r : Query)
-    → Asked q measures₀ room defines measures r → MeasureCount q r.measures
+    → Asked q measures₀ room defines measures (Ok r) → MeasureCount q r.measures
 unfolding measures_in
 measures_counted q measures₀ room defines measures r a =
-    record {
-      is = λ z.
-          let w = a.good (a.answer ∙ z) in
-          w.good.measured ∙ sym (length-tabulate w.parts.measures (measure_in measures 0)) ∙ ap length w.decoded.measured;
-    }
+    let w = a.good in
+    record { is = λ z. w.good.measured ∙ sym (length-tabulate w.parts.measures (measure_in measures 0)) ∙ ap length w.decoded.measured }
+
+-- a query that is refused has an answer
+pub none_counted : (q measures₀ room defines measures : List ℕ) (e : Refusal) (k : ℕ)
+    → Asked q measures₀ room defines measures (Err e) → MeasureCount q k
+none_counted q measures₀ room defines measures e k a = record { is = λ z. absurd (some_answer e (a.answer ∙ z)) }
 
 -- ---- the search's report: r and the buffers without a stroke are what the search leaves of those
 -- with one, and k is the number of measures

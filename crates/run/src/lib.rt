@@ -5,9 +5,10 @@
 // number of its measures, by which the report's numbers are parted.
 #![tactic(auto)]
 
-ghost use Rattle.std.specs.Prelude.{◌+◌, ◌≤◌, length};
-ghost use Rattle.rules.specs.Answers.{task_of, walked};
+ghost use Rattle.std.specs.Prelude.{◌≡◌, ◌+◌, ◌≤◌, length};
+ghost use Rattle.rules.specs.Answers.{task_of, walked, bad_rows, pairs_of, room_answer};
 ghost use Rattle.rules.specs.Program.{search_text, printed_for, printed};
+ghost use Rattle.input.specs.Verdict.{input_verdict};
 ghost use Rattle.put.specs.Put.{Wrote};
 ghost use Rattle.run.specs.Run.{MeasureCount, Found, ProgramRan};
 
@@ -20,8 +21,10 @@ fn measures_of(query: &[u8]) -> usize
     let mut nodes = [0u16; 4096];
     let mut defines = [0usize; 26];
     let mut measures = [0u8; 24];
-    let q = room::read_query(query, &mut nodes, &mut defines, &mut measures);
-    q.measures
+    match room::read_query(query, &mut nodes, &mut defines, &mut measures) {
+        Ok(q) => q.measures,
+        Err(_) => 0,
+    }
 }
 
 // The search of a query and rows that are not refused and have at most 16,000 pairs, and its report
@@ -55,8 +58,20 @@ fn run_search(query: &[u8], rows: &[i32], out: &mut Out<'_>)
     );
 }
 
-// A query and its row bytes, by the verdict on them. Where there is an answer, `room` says 0 places
-// and 0 rows, so the number of pairs can be computed first.
+// The verdict on a query with these rows, of so many bytes.
+fn verdict_on(query: &[u8], rows: &[i32], bytes: usize) -> input::Verdict
+    ensures { result ≡ input_verdict (room_answer query.now (bad_rows query.now rows.now)) bytes (pairs_of query.now rows.now) }
+{
+    match room::room(query, rows) {
+        Ok(size) => {
+            let pairs = size.places * size.factor * (size.rows + 1);
+            input::verdict_of(0, bytes, pairs)
+        }
+        Err(refusal) => input::verdict_of(refusal.answer(), bytes, 0),
+    }
+}
+
+// A query and its row bytes, by the verdict on them.
 fn run_query(query: &[u8], bytes: &[u8], out: &mut Out<'_>)
     requires bytes_len_bound { length bytes.now ≤ 32768 }
     requires in_bounds { out.old.at + 245820 ≤ length out.old.buf.now }
@@ -64,10 +79,7 @@ fn run_query(query: &[u8], bytes: &[u8], out: &mut Out<'_>)
 {
     let mut rows = [0i32; 8192];
     let count = input::rows_of(bytes, &mut rows);
-    let size = room::room(query, &rows[..count]);
-    let pairs = size.places * size.factor * (size.rows + 1);
-    let verdict = input::verdict_of(size.answer, bytes.len(), pairs);
-    match verdict {
+    match verdict_on(query, &rows[..count], bytes.len()) {
         input::Verdict::Refused(answer) => header::put_refused(out, answer),
         input::Verdict::TooLarge => header::put_too_large(out),
         input::Verdict::Search => run_search(query, &rows[..count], out),

@@ -1,6 +1,6 @@
 -- The search's answers: one law for each way through `run`. The answer is that of the first of the
 -- rules' tests that is true.
-use mathlib.Core.Path.{◌≡◌, refl, ap, sym, ◌∙◌}
+use mathlib.Core.Path.{◌≡◌, refl, ap, ap₂, sym, ◌∙◌}
 use mathlib.Core.Bool.{Bool, true, false, not, true≢false}
 use mathlib.Core.List.{List, [], ◌∷◌, ◌++◌}
 use mathlib.Core.Option.{Option, none, some}
@@ -15,6 +15,11 @@ use lib.ListN.{length}
 use mir.Syntax.{w64}
 use mir.Val.{Fits}
 use borrow.Author.Tests.{le-ltb, ltb-false, eqb-true, ne_eqb, not-false}
+use Rattle.std.specs.Prelude.{Result, Ok, Err, Some}
+use Rattle.refusals.specs.Refusals.{answer_of, offset_of}
+use Rattle.refusals.specs.declared.Refusal.{Refusal}
+use Rattle.refusals.specs.declared.Refusal.TheVariants.{BadRows}
+use Rattle.refusals.proofs.Numbers.{some_answer}
 use Rattle.rules.specs.Basics.{pick, every}
 use Rattle.rules.specs.Rows.{table_of}
 use Rattle.rules.specs.Query.{columns_of, text_of, parts}
@@ -28,6 +33,7 @@ use Rattle.laws.proofs.Demands.{demands, allowing}
 use Rattle.laws.proofs.FirstDemand.{result_answer, unrefused_by, demand1}
 use Rattle.laws.proofs.Limits.{limits}
 use Rattle.laws.proofs.FirstTrue.{end-accepted, all_refuse, first-refuses, first-before, first-after}
+use Rattle.laws.proofs.Choice.{decided}
 use Rattle.laws.proofs.Level.{or-false}
 use Rattle.sizes.specs.Sizes.{bad_count, short_for}
 use Rattle.reading.specs.Reading.{query_answer}
@@ -35,9 +41,11 @@ use Rattle.outcome.specs.declared.Outcome.{Outcome}
 use Rattle.outcome.specs.Results.{lent, memory, refusal}
 use Rattle.prepared.specs.Ready.{Ready, Given, PreparedAs}
 use Rattle.prepared.specs.declared.Prepared.{Prepared}
+use Rattle.prepared.proofs.Enough.{too_few}
 use Rattle.starting.specs.Starts.{ended, Walks}
+use Rattle.starting.specs.declared.Terms.{Terms}
 use Rattle.search.specs.Promise.{Promised}
-use Rattle.search.specs.Runs.{Runs}
+use Rattle.search.specs.Runs.{Runs, TermsFor}
 
 -- ---- the promise is kept where result and buffers are the definition's
 
@@ -129,15 +137,15 @@ module _ (al : ℕ) (q : List ℕ) (rows : List ℤ) (notes trail : List ℕ) (n
         let y : refuses (answer_within (some al) q rows before) ≡ false = ap refuses x ∙ end-accepted w.end in
         promised (some al) q rows before m (e ∙ sym (rw y (ap (λ (n : ℕ). accepted (report_of n (task_of q rows) before w) w.state before) x)))
 
--- ---- what a prepared query gives
+-- ---- the terms of a run
 
 -- so many entries that make good rows of so many columns, and their pairs with up to 2,048 places
 -- of the table
-module _ (columns places entries : ℕ) (t : Bool) (et : t ≡ bad_count entries columns) (f : t ≡ false) where
+module _ (columns places entries : ℕ) (f : bad_count entries columns ≡ false) where
   few_rows : (entries % columns ≡ 0) × (entries / columns ≤ 4096)
   unfolding bad_count
   few_rows =
-      let g = or-false (not (eqb (entries % columns) 0)) (ltb 4096 (entries / columns)) (sym et ∙ f) in
+      let g = or-false (not (eqb (entries % columns) 0)) (ltb 4096 (entries / columns)) f in
       (eqb-true (entries % columns) 0 (not-false (eqb (entries % columns) 0) g.0), ltb-false 4096 (entries / columns) g.1)
 
   pairs-most : places ≤ 2048 → places * (entries / columns + 1) ≤ 8390656
@@ -145,126 +153,145 @@ module _ (columns places entries : ℕ) (t : Bool) (et : t ≡ bad_count entries
       let k : places * (entries / columns + 1) ≤ 2048 * 4097 = mul-le-mul few (let g : entries / columns + 1 ≤ 4097 = omega (arith, few_rows.1) in g) in
       omega arith
 
-module _ (T : List ℕ) (p : Prepared) (a : Runs T p) (z : p.answer ≡ 0) where
-  pub some-column : 1 ≤ p.columns
-  some-column = (a.given.ready z).some_columns
+module _ (p : Prepared) (entries notes trail al : ℕ) where
+  pub rows_refuse : (e : Refusal) → (bad_count entries p.columns ≡ true) × (e ≡ BadRows) → TermsFor p entries notes trail al (Err e)
+  rows_refuse e h = rw (h.1) (record { answer = rw (h.0) refl; offset = refl; terms = tt })
 
-  few_places : p.places ≤ 2048
-  few_places = (a.given.ready z).few
+  module _ (n : ℕ) (h : (bad_count entries p.columns ≡ false) × (n ≡ entries / p.columns)) where
+    pub rows_fit : Fits w64 (n + 1)
+    rows_fit = record { fits = omega (arith, h.1, (few_rows p.columns p.places entries h.0).1) }
 
-  module _ (entries : ℕ) (t : Bool) (et : t ≡ bad_count entries p.columns) (f : t ≡ false) where
-    -- the number of pairs can be computed
-    pub rows_fit : Fits w64 (entries / p.columns + 1)
-    rows_fit = record { fits = omega (arith, (few_rows p.columns p.places entries t et f).1) }
+    pub pairs_few : p.places ≤ 2048 → p.places * (n + 1) ≤ 8390656
+    pairs_few few = rw (h.1) (pairs-most p.columns p.places entries h.0 few)
 
-    pub pairs-fit : Fits w64 (p.places * (entries / p.columns + 1))
-    pairs-fit = record { fits = omega (arith, pairs-most p.columns p.places entries t et f few_places) }
+    pub pairs_fit : p.places ≤ 2048 → Fits w64 (p.places * (n + 1))
+    pairs_fit few = record { fits = omega (arith, pairs_few few) }
 
-    pub pairs-few : (k : ℕ) → k ≡ p.places * (entries / p.columns + 1) → k ≤ 8390656
-    pairs-few k e = omega (arith, pairs-most p.columns p.places entries t et f few_places, e)
+    pub room_refuses : (e : Refusal) → answer_of e ≡ short_for (p.places * (n + 1)) notes trail → offset_of e ≡ 0 → TermsFor p entries notes trail al (Err e)
+    room_refuses e a o = record { answer = a ∙ rw (h.0, h.1) refl; offset = o; terms = tt }
 
-module _ (al : ℕ) (T : List ℕ) (p : Prepared) (rows : List ℤ) (notes trail : List ℕ) (numbers : List ℤ) (labels : List ℕ) where
+    pub terms_told : 0 ≡ short_for (p.places * (n + 1)) notes trail → TermsFor p entries notes trail al (Ok (record { rows = n; largest = n; allowance = al; more = false }))
+    terms_told e = record { answer = e ∙ rw (h.0, h.1) refl; offset = refl; terms = rw (h.1) refl }
+
+-- what the proof of `terms_for` cites
+pub ruleset admits = (rows_refuse, rows_fit, pairs_few, pairs_fit, room_refuses, terms_told)
+
+-- ---- what a prepared query gives
+
+module _ (al : ℕ) (T : List ℕ) (rows : List ℤ) (notes trail : List ℕ) (numbers : List ℤ) (labels : List ℕ) where
   abbrev buffers : Buffers
   buffers = lent notes trail numbers labels
 
-  abbrev n : ℕ
-  n = length rows / p.columns
-
   -- the query has an answer of its own
-  pub run-refuses : (p.answer ≡ 0 → ⊥) → (o : Outcome) → o ≡ refusal p.answer p.offset
-      → (q : List ℕ) → Given q T p → Promised (some al) q rows buffers (memory o notes trail numbers labels)
-  run-refuses d o b q g = query_refused al q rows notes trail numbers labels p.answer p.offset (g.refused d).0 (g.refused d).1 d o b
+  pub own_refuses : (e : Refusal) (o : Outcome) → o ≡ refusal (answer_of e) (offset_of e)
+      → (q : List ℕ) → Given q T (Err e) → Promised (some al) q rows buffers (memory o notes trail numbers labels)
+  own_refuses e o b q g = query_refused al q rows notes trail numbers labels (answer_of e) (offset_of e) g.told.answer g.told.offset (some_answer e) o b
 
-  module _ (z : p.answer ≡ 0) (t : Bool) (et : t ≡ bad_count (length rows) p.columns) where
-    the_columns : (q : List ℕ) → Given q T p → p.columns ≡ columns_of q
-    unfolding parts
-    the_columns q g = (g.ready z).columns_are
+  module _ (p : Prepared) where
+    abbrev n : ℕ
+    n = length rows / p.columns
 
-    the_rows : (q : List ℕ) → Given q T p → bad_rows q rows ≡ t
-    unfolding bad_rows bad_count table_of
-    the_rows q g = rw (← the_columns q g) (sym et)
+    module _ (q : List ℕ) (g : Ready q T p) where
+      the_columns : p.columns ≡ columns_of q
+      unfolding parts
+      the_columns = g.columns_are
 
-    -- answer 10
-    pub run-rows : t ≡ true → (o : Outcome) → o ≡ refusal 10 0 → (q : List ℕ) → Given q T p → Promised (some al) q rows buffers (memory o notes trail numbers labels)
-    run-rows f o b q g = rows-refused al q rows notes trail numbers labels (g.ready z).none (the_rows q g ∙ f) o b
+      the_rows : bad_rows q rows ≡ bad_count (length rows) p.columns
+      unfolding bad_rows bad_count table_of
+      the_rows = rw (← the_columns) refl
 
-    module _ (f : t ≡ false) where
-      the_places : (q : List ℕ) → Given q T p → p.places ≡ P (tree_in q) * F (tree_in q)
+      the_places : p.places ≡ P (tree_in q) * F (tree_in q)
       unfolding P F
-      the_places q g = (g.ready z).places_are ∙ ap (λ (t : Option (Tree pattern)). P t * F t) (sym (g.ready z).has_tree)
+      the_places = g.places_are ∙ ap (λ (t : Option (Tree pattern)). P t * F t) (sym g.has_tree)
 
-      the_pairs : (q : List ℕ) → Given q T p → pairs_of q rows ≡ p.places * (n + 1)
+      the_pairs : pairs_of q rows ≡ p.places * (n + 1)
       unfolding pairs_of table_of
-      the_pairs q g = rw (← the_columns q g, ← the_places q g, add-one)
+      the_pairs = rw (← the_columns, ← the_places, add-one)
 
       -- answers 11 and 12 by numbers
-      module _ (k : ℕ) (ek : k ≡ p.places * (n + 1)) (s : ℕ) (es : s ≡ short_for k (length notes) (length trail)) where
-        the_short : (q : List ℕ) → Given q T p → s ≡ pick (short_notes q rows buffers) 11 (pick (short_trail q rows buffers) 12 0)
-        unfolding short_for short_notes short_trail
-        the_short q g = es ∙ rw (ek, the_pairs q g)
+      the_short : short_for (p.places * (n + 1)) (length notes) (length trail) ≡ pick (short_notes q rows buffers) 11 (pick (short_trail q rows buffers) 12 0)
+      unfolding short_for short_notes short_trail
+      the_short = rw (the_pairs) refl
 
-        pub run_short : (s ≡ 0 → ⊥) → (o : Outcome) → o ≡ refusal s 0 → (q : List ℕ) → Given q T p → Promised (some al) q rows buffers (memory o notes trail numbers labels)
-        run_short d o b q g = room-refused al q rows notes trail numbers labels (g.ready z).none (the_rows q g ∙ f) s (the_short q g) d o b
+    -- answers 10 to 12
+    pub run_refuses : (e : Refusal) → TermsFor p (length rows) (length notes) (length trail) al (Err e) → (o : Outcome) → o ≡ refusal (answer_of e) (offset_of e)
+        → (q : List ℕ) → Given q T (Ok p) → Promised (some al) q rows buffers (memory o notes trail numbers labels)
+    run_refuses e t o b q g =
+        decided (bad_count (length rows) p.columns)
+        (λ f. rows-refused al q rows notes trail numbers labels g.told.none (the_rows q g.told ∙ f) o
+        (b ∙ ap₂ refusal (let a : answer_of e ≡ 10 = t.answer ∙ rw f refl in a) t.offset))
+        (λ f. room-refused al q rows notes trail numbers labels g.told.none (the_rows q g.told ∙ f) (answer_of e)
+        (t.answer ∙ rw f (the_short q g.told)) (some_answer e) o (b ∙ ap (refusal (answer_of e)) t.offset))
 
-        module _ (es0 : s ≡ 0) where
-          both_long : (bytes_for k ≤ length notes) × (k ≤ length trail)
-          unfolding short_for
-          both_long = go (ltb (length notes) (bytes_for k)) (ltb (length trail) k) refl refl (sym es ∙ es0)
-            where
-              go : (u v : Bool) → ltb (length notes) (bytes_for k) ≡ u → ltb (length trail) k ≡ v → ◌≡◌ {A = ℕ} (pick u 11 (pick v 12 0)) 0 → (bytes_for k ≤ length notes) × (k ≤ length trail)
-              go true v eu ev e = absurd (omega arith)
-              go false true eu ev e = absurd (omega arith)
-              go false false eu ev e = (ltb-false (length notes) (bytes_for k) eu, ltb-false (length trail) k ev)
+    module _ (t : Terms) (told : TermsFor p (length rows) (length notes) (length trail) al (Ok t)) where
+      good-rows : bad_count (length rows) p.columns ≡ false
+      good-rows = decided (bad_count (length rows) p.columns) (λ f. absurd (let y : ◌≡◌ {A = ℕ} 0 10 = told.answer ∙ rw f refl in omega arith)) (λ f. f)
 
-          no_short : (q : List ℕ) → Given q T p → (short_notes q rows buffers ≡ false) × (short_trail q rows buffers ≡ false)
-          unfolding short_notes short_trail
-          no_short q g = (
-            rw (the_pairs q g, ← ek) (le-ltb (length notes) (bytes_for k) both_long.0),
-            rw (the_pairs q g, ← ek) (le-ltb (length trail) k both_long.1),
-          )
+      no-short : ◌≡◌ {A = ℕ} 0 (short_for (p.places * (n + 1)) (length notes) (length trail))
+      no-short = told.answer ∙ rw good-rows refl
 
-          -- the walk may begin
-          pub run-walks : Runs T p → Walks T p (record { rows = n; largest = n; allowance = al; more = false }) rows notes trail
-          unfolding bytes_for
-          run-walks a =
-              let s : n + 1 ≡ suc n = add-one n in
-              let w = few_rows p.columns p.places (length rows) t et f in
-              let d : n * p.columns + length rows % p.columns ≡ length rows = div-add-mod' (length rows) p.columns in
-              let pp : k ≡ p.places * suc n = rw (← s) ek in
-              let f' : (p.places * suc n + 7) / 8 ≤ length notes = rw (← pp) both_long.0 in
-              record {
-                query = a.query;
-                ready = a.given.ready z;
-                whole = refl;
-                no_more = refl;
-                fed = record { most = w.1; few = omega arith; all = omega (arith, d, w.0); noted = omega (arith, f'); trailed = rw (← pp) both_long.1 };
-              }
+      both_long : (bytes_for (p.places * (n + 1)) ≤ length notes) × (p.places * (n + 1) ≤ length trail)
+      unfolding short_for
+      both_long = go (ltb (length notes) (bytes_for (p.places * (n + 1)))) (ltb (length trail) (p.places * (n + 1))) refl refl no-short
+        where
+          go : (u v : Bool) → ltb (length notes) (bytes_for (p.places * (n + 1))) ≡ u → ltb (length trail) (p.places * (n + 1)) ≡ v → ◌≡◌ {A = ℕ} 0 (pick u 11 (pick v 12 0))
+              → (bytes_for (p.places * (n + 1)) ≤ length notes) × (p.places * (n + 1) ≤ length trail)
+          go true v eu ev e = absurd (omega arith)
+          go false true eu ev e = absurd (omega arith)
+          go false false eu ev e = (ltb-false (length notes) (bytes_for (p.places * (n + 1))) eu, ltb-false (length trail) (p.places * (n + 1)) ev)
 
-          -- done, stopped or halted
-          pub run_ends : (m : Memory) → ((q : List ℕ) → Ready q T p → m ≡ ended al q rows buffers) → (q : List ℕ) → Given q T p → Promised (some al) q rows buffers m
-          run_ends m e q g =
-              search_ended al q rows notes trail numbers labels (g.ready z).none (the_rows q g ∙ f) (no_short q g).0 (no_short q g).1 m (e q (g.ready z))
+      long-enough : (q : List ℕ) → Ready q T p → (short_notes q rows buffers ≡ false) × (short_trail q rows buffers ≡ false)
+      unfolding short_notes short_trail
+      long-enough q g = (
+        rw (the_pairs q g) (le-ltb (length notes) (bytes_for (p.places * (n + 1))) both_long.0),
+        rw (the_pairs q g) (le-ltb (length trail) (p.places * (n + 1)) both_long.1),
+      )
+
+      -- the walk may begin
+      pub run_walks : Runs T (Ok p) → Walks T p t rows notes trail
+      unfolding bytes_for
+      run_walks a =
+          let s : n + 1 ≡ suc n = add-one n in
+          let w = few_rows p.columns p.places (length rows) good-rows in
+          let d : n * p.columns + length rows % p.columns ≡ length rows = div-add-mod' (length rows) p.columns in
+          let f' : (p.places * suc n + 7) / 8 ≤ length notes = rw (← s) both_long.0 in
+          let g' : p.places * suc n ≤ length trail = rw (← s) both_long.1 in
+          rw told.terms (record {
+            query = a.query;
+            ready = a.given.told;
+            whole = refl;
+            no_more = refl;
+            fed = record { most = w.1; few = omega arith; all = omega (arith, d, w.0); noted = omega (arith, f'); trailed = g' };
+          })
+
+      -- done, stopped or halted
+      pub run_ends : (m : Memory) → ((q : List ℕ) → Ready q T p → m ≡ ended t.allowance q rows buffers) → (q : List ℕ) → Given q T (Ok p) → Promised (some al) q rows buffers m
+      run_ends m e q g =
+          let l = long-enough q g.told in
+          search_ended al q rows notes trail numbers labels g.told.none (the_rows q g.told ∙ good-rows) l.0 l.1 m
+          (e q g.told ∙ ap (λ (t : Terms). ended t.allowance q rows buffers) told.terms)
+
+-- a prepared query has columns and few places
+module _ (T : List ℕ) (p : Prepared) (a : Runs T (Ok p)) where
+  pub some_column : 1 ≤ p.columns
+  some_column = a.given.told.some_columns
+
+  pub few_places : p.places ≤ 2048
+  few_places = a.given.told.few
+
+-- what the proof of `run` cites
+pub ruleset runs = (some_column, few_places)
 
 -- ---- prepared, then run
 
-module _ (q T T' : List ℕ) (p : Prepared) (h : PreparedAs q T T' p) where
-  module _ (d : p.answer ≡ 255 → ⊥) where
-    pub may_run : Runs T' p
-    may_run = record { query = q; given = h.given d }
+module _ (q T T' : List ℕ) (r : Result Prepared Refusal) (h : PreparedAs q T T' (Some r)) where
+  pub may_run : Runs T' r
+  may_run = record { query = q; given = h.told }
 
-    pub has-run : (al : ℕ) (rows : List ℤ) (before : Buffers) (m : Memory) → ((q : List ℕ) → Given q T' p → Promised (some al) q rows before m) → Promised (some al) q rows before m
-    has-run al rows before m e = e q (h.given d)
+  pub has_run : (al : ℕ) (rows : List ℤ) (before : Buffers) (m : Memory) → ((q : List ℕ) → Given q T' r → Promised (some al) q rows before m) → Promised (some al) q rows before m
+  has_run al rows b m e = e q h.told
 
-  -- a table of 16,076 words is enough
-  module _ (long : length T ≡ 16076) where
-    enough : p.answer ≡ 255 → ⊥
-    enough e = let z = h.no_room e (omega arith) in absurd (omega arith)
-
-    pub may_run_large : Runs T' p
-    may_run_large = may_run enough
-
-    pub has-run_large : (al : ℕ) (rows : List ℤ) (before : Buffers) (m : Memory) → ((q : List ℕ) → Given q T' p → Promised (some al) q rows before m) → Promised (some al) q rows before m
-    has-run_large = has-run enough
+pub ruleset tabled = (may_run, has_run, too_few)
 
 -- ---- without a limit
 

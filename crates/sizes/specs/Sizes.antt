@@ -1,5 +1,5 @@
 -- Answers 10, 11 and 12 by numbers alone. That these are the rules' tests for a query and rows that
--- have these numbers is said in crates/reading (`bad-rows`) and crates/search (`short-room`).
+-- have these numbers is said in crates/reading (`bad-rows`) and crates/search (`the_short`).
 use Rattle.std.specs.Prelude.{Bool, not, ◌||◌, ℕ, ◌/◌, ◌%◌, eqb, ltb}
 use Rattle.rules.specs.Basics.{pick}
 use Rattle.rules.specs.Report.{bytes_for}

@@ -9,8 +9,15 @@ use lib.Dec.{eqb, ltb, leb}
 use lib.IntN.{ℤ}
 use lib.ListN.{length}
 use mir.Syntax.{w64}
-use mir.Val.{Fits, bool_byte}
+use mir.Val.{Fits}
 use borrow.Author.Tests.{eqb-true, eq-eqb, ne_eqb, ltb-false, lt-leb, not-false}
+use Rattle.std.specs.Prelude.{Result, Ok, Err, Some, None}
+use Rattle.refusals.specs.Refusals.{answer_of, offset_of}
+use Rattle.refusals.specs.declared.Refusal.{Refusal}
+use Rattle.refusals.specs.declared.Refusal.TheVariants.{BadRows}
+use Rattle.refusals.proofs.Numbers.{some_answer}
+use Rattle.prepared.proofs.Enough.{too_few}
+use Rattle.judging.specs.declared.Judged.{Judged}
 use Rattle.rules.specs.Basics.{pick, in_range, is_letter, every}
 use Rattle.rules.specs.Rows.{table_of, all_of, holds, judged_in, judged}
 use Rattle.rules.specs.Query.{columns_of, text_of, unfit, parts}
@@ -33,12 +40,6 @@ use Rattle.judging.specs.Judging.{holds_from, judged_from, Judgeable}
 use Rattle.judging.proofs.Rules.{holds-judged}
 use Rattle.test_letter.specs.declared.Tested.{Tested}
 use Rattle.test_letter.specs.Tests.{Asks, TestedAs, refused_test, tested}
-
--- ---- a result
-
-pub found-is : (h : Bool) (k : ℕ) → ◌≡◌ {A = Tested} (record { answer = 0; holds = bool_byte h; judged = k; offset = 0 }) (tested h k)
-found-is true k = refl
-found-is false k = refl
 
 -- ---- the answers
 
@@ -80,72 +81,72 @@ module _ (q : List ℕ) (rows : List ℤ) (letter row : ℕ) where
 
 -- ---- what a prepared query gives
 
-module _ (T : List ℕ) (p : Prepared) (a : Asks T p) (z : p.answer ≡ 0) where
-  pub some-column : 1 ≤ p.columns
-  some-column = (a.given.ready z).some_columns
+module _ (T : List ℕ) (p : Prepared) (a : Asks T (Ok p)) where
+  pub some_column : 1 ≤ p.columns
+  some_column = a.given.told.some_columns
 
   pub few_columns : p.columns ≤ 8
-  few_columns = (a.given.ready z).most_columns
+  few_columns = a.given.told.most_columns
 
   pub few_places : p.places ≤ 2048
-  few_places = (a.given.ready z).few
-
-  -- so few rows
-  module _ (entries : ℕ) (t : Bool) (et : t ≡ bad_count entries p.columns) (f : t ≡ false) where
-    counted : (entries % p.columns ≡ 0) × (entries / p.columns ≤ 4096)
-    unfolding bad_count
-    counted =
-        let g = or-false (not (eqb (entries % p.columns) 0)) (ltb 4096 (entries / p.columns)) (sym et ∙ f) in
-        (eqb-true (entries % p.columns) 0 (not-false (eqb (entries % p.columns) 0) g.0), ltb-false 4096 (entries / p.columns) g.1)
-
-    pub few_rows : entries / p.columns ≤ 4096
-    few_rows = counted.1
+  few_places = a.given.told.few
 
   -- the words of a letter
   module _ (letter : ℕ) (low : 65 ≤ letter) (high : letter ≤ 90) (tests : ℕ) (et : tests ≡ tests_at p.places) where
     pub judgeable : Judgeable T (tests + (letter - 65) * 16)
     judgeable =
-        let r = (a.given.ready z).tests in
+        let r = a.given.told.tests in
         rw et (record {
           long = let l = r.long in omega arith;
           more = r.more (letter - 65) (omega arith);
           entries = r.entries (letter - 65) (omega arith);
         })
 
+-- so few rows
+module _ (entries columns n : ℕ) (h : (bad_count entries columns ≡ false) × (n ≡ entries / columns)) where
+  counted : (entries % columns ≡ 0) × (entries / columns ≤ 4096)
+  unfolding bad_count
+  counted =
+      let g = or-false (not (eqb (entries % columns) 0)) (ltb 4096 (entries / columns)) h.0 in
+      (eqb-true (entries % columns) 0 (not-false (eqb (entries % columns) 0) g.0), ltb-false 4096 (entries / columns) g.1)
+
+  pub few_rows : n ≤ 4096
+  few_rows = let c = counted.1 in let e = h.1 in omega arith
+
 pub base_fits : (near columns : ℕ) → near ≤ 4160 → columns ≤ 8 → Fits w64 (near * columns)
 base_fits near columns a b = let m : near * columns ≤ 4160 * 8 = mul-le-mul a b in record { fits = omega arith }
 
 -- ---- the ways
 
-module _ (T : List ℕ) (p : Prepared) (rows : List ℤ) (letter row : ℕ) where
-  pub test_refuses : (p.answer ≡ 0 → ⊥) → (r : Tested) → r ≡ refused_test p.answer p.offset → (q : List ℕ) → Given q T p → TestedAs q rows letter row r
-  test_refuses d r b q g = query_refused q rows letter row p.answer p.offset (g.refused d).0 (g.refused d).1 d r b
+module _ (T : List ℕ) (rows : List ℤ) (letter row : ℕ) where
+  pub test_refuses : (e : Refusal) → (q : List ℕ) → Given q T (Err e) → TestedAs q rows letter row (refused_test (answer_of e) (offset_of e))
+  test_refuses e q g = query_refused q rows letter row (answer_of e) (offset_of e) g.told.answer g.told.offset (some_answer e) (refused_test (answer_of e) (offset_of e)) refl
 
-  module _ (z : p.answer ≡ 0) (t : Bool) (et : t ≡ bad_count (length rows) p.columns) where
-    the_columns : (q : List ℕ) → Given q T p → p.columns ≡ columns_of q
+  module _ (p : Prepared) where
+    the_columns : (q : List ℕ) → Given q T (Ok p) → p.columns ≡ columns_of q
     unfolding parts
-    the_columns q g = (g.ready z).columns_are
+    the_columns q g = g.told.columns_are
 
-    the_rows : (q : List ℕ) → Given q T p → bad_rows q rows ≡ t
+    the_rows : (q : List ℕ) → Given q T (Ok p) → bad_rows q rows ≡ bad_count (length rows) p.columns
     unfolding bad_rows bad_count table_of
-    the_rows q g = rw (← the_columns q g) (sym et)
+    the_rows q g = rw (← the_columns q g) refl
 
-    pub test_rows : t ≡ true → (r : Tested) → r ≡ refused_test 10 0 → (q : List ℕ) → Given q T p → TestedAs q rows letter row r
-    test_rows f r b q g = rows-refused q rows letter row (g.ready z).none (the_rows q g ∙ f) r b
+    pub test_rows : (e : Refusal) → (bad_count (length rows) p.columns ≡ true) × (e ≡ BadRows) → (q : List ℕ) → Given q T (Ok p) → TestedAs q rows letter row (refused_test (answer_of e) (offset_of e))
+    test_rows e h q g = rw (h.1) (rows-refused q rows letter row g.told.none (the_rows q g ∙ h.0) (refused_test 10 0) refl)
 
-    module _ (f : t ≡ false) where
+    module _ (n : ℕ) (h : (bad_count (length rows) p.columns ≡ false) × (n ≡ length rows / p.columns)) where
       -- a byte that is no letter
-      free : is_letter letter ≡ false → (r : Tested) → r ≡ tested true 0 → (q : List ℕ) → Given q T p → TestedAs q rows letter row r
+      free : is_letter letter ≡ false → (q : List ℕ) → Given q T (Ok p) → TestedAs q rows letter row (tested true 0)
       unfolding judged judged_in every
-      free n r b q g =
-          let c : (parts q).condition letter ≡ all_of [] = no-letter q (fitting q (g.ready z).none) letter n in
-          made q rows letter row (g.ready z).none (the_rows q g ∙ f) true 0 (rw c (sym (all_met (table_of (parts q).columns rows) row []))) (rw c refl) r b
+      free x q g =
+          let c : (parts q).condition letter ≡ all_of [] = no-letter q (fitting q g.told.none) letter x in
+          made q rows letter row g.told.none (the_rows q g ∙ h.0) true 0 (rw c (sym (all_met (table_of (parts q).columns rows) row []))) (rw c refl) (tested true 0) refl
 
-      pub test_low : letter < 65 → (r : Tested) → r ≡ tested true 0 → (q : List ℕ) → Given q T p → TestedAs q rows letter row r
+      pub test_low : letter < 65 → (q : List ℕ) → Given q T (Ok p) → TestedAs q rows letter row (tested true 0)
       unfolding is_letter in_range
       test_low l = free (rw (lt-leb 65 letter l) refl)
 
-      pub test_high : 90 < letter → (r : Tested) → r ≡ tested true 0 → (q : List ℕ) → Given q T p → TestedAs q rows letter row r
+      pub test_high : 90 < letter → (q : List ℕ) → Given q T (Ok p) → TestedAs q rows letter row (tested true 0)
       unfolding is_letter in_range
       test_high l = free (high (leb 65 letter) (lt-leb letter 90 l))
         where
@@ -154,36 +155,43 @@ module _ (T : List ℕ) (p : Prepared) (rows : List ℤ) (letter row : ℕ) wher
           high false e = refl
 
       -- a letter
-      pub test_made : 65 ≤ letter → letter ≤ 90 → Words T → (near from tests : ℕ) → near ≡ min row (length rows / p.columns + 64) → FarBack p.columns (near * p.columns) from
-          → tests ≡ tests_at p.places → (h : Bool) (k : ℕ) → h ≡ holds_from T rows from (tests + (letter - 65) * 16) → k ≡ judged_from T rows from (tests + (letter - 65) * 16)
-          → (r : Tested) → r ≡ tested h k → (q : List ℕ) → Given q T p → TestedAs q rows letter row r
-      test_made low high words near from tests en far et' h k eh ek r b q g =
-          let a = g.ready z in
-          let asks : Asks T p = record { query = q; given = g } in
-          let w = few_rows T p asks z (length rows) t et f in
-          let v = (counted T p asks z (length rows) t et f).0 in
+      pub test_made : 65 ≤ letter → letter ≤ 90 → Words T → (near from tests : ℕ) → near ≡ min row (n + 64) → FarBack p.columns (near * p.columns) from
+          → tests ≡ tests_at p.places → (j : Judged) → j.holds ≡ holds_from T rows from (tests + (letter - 65) * 16) → j.count ≡ judged_from T rows from (tests + (letter - 65) * 16)
+          → (q : List ℕ) → Given q T (Ok p) → TestedAs q rows letter row (tested j.holds j.count)
+      test_made low high words near from tests en far et j eh ek q g =
+          let a = g.told in
+          let w = few_rows (length rows) p.columns n h in
+          let v = (counted (length rows) p.columns n h).0 in
+          let i = h.1 in
           let d : length rows / p.columns * p.columns + length rows % p.columns ≡ length rows = div-add-mod' (length rows) p.columns in
+          let m : near ≡ min row (length rows / p.columns + 64) = en ∙ ap (λ (k : ℕ). min row (k + 64)) i in
           let is : At rows p.columns (length rows / p.columns) row from = record {
             some = a.some_columns;
             few = a.most_columns;
-            most = w;
+            most = omega arith;
             all = omega (arith, d, v);
-            far = rw en at far;
+            far = rw m at far;
           } in
           let u = holds-judged T words rows p.columns (length rows / p.columns) row from is (tests + (letter - 65) * 16) in
           let c : condition_in T p.columns (tests + (letter - 65) * 16) ≡ (parts q).condition letter =
-          rw et' (a.letters (letter - 65) (omega arith) ∙ ap (λ (i : ℕ). (parts q).condition i) (let e : 65 + (letter - 65) ≡ letter = omega arith in e)) in
+          rw et (a.letters (letter - 65) (omega arith) ∙ ap (λ (i : ℕ). (parts q).condition i) (let e : 65 + (letter - 65) ≡ letter = omega arith in e)) in
           let o = a.columns_are in
-          made q rows letter row a.none (the_rows q g ∙ f) h k (eh ∙ u.0 ∙ rw (c, o) refl) (ek ∙ u.1 ∙ rw (c, o) refl) r b
+          made q rows letter row a.none (the_rows q g ∙ h.0) j.holds j.count (eh ∙ u.0 ∙ rw (c, o) refl) (ek ∙ u.1 ∙ rw (c, o) refl) (tested j.holds j.count) refl
+
+-- what the proof of `test_prepared` cites
+pub ruleset tests = (few_rows, base_fits)
 
 -- ---- prepared, then tested
 
-module _ (q T T' : List ℕ) (p : Prepared) (h : PreparedAs q T T' p) (long : length T ≡ 16076) where
-  enough : p.answer ≡ 255 → ⊥
-  enough e = let z = h.no_room e (omega arith) in absurd (omega arith)
+-- a table of 16,076 words is enough
+pub enough : (q T T' : List ℕ) → length T ≡ 16076 → PreparedAs q T T' None → ⊥
+enough q T T' l h = let z = too_few q T T' 16076 h l (omega arith) in omega arith
 
-  pub may_test : Asks T' p
-  may_test = record { query = q; given = h.given enough }
+module _ (q T T' : List ℕ) (r : Result Prepared Refusal) (h : PreparedAs q T T' (Some r)) where
+  pub may_test : Asks T' r
+  may_test = record { query = q; given = h.told }
 
-  pub has-tested : (rows : List ℤ) (letter c row : ℕ) (r : Tested) → c ≡ letter → ((q : List ℕ) → Given q T' p → TestedAs q rows c row r) → TestedAs q rows letter row r
-  has-tested rows letter c row r w e = rw (← w) (e q (h.given enough))
+  pub has_tested : (rows : List ℤ) (letter c row : ℕ) (t : Tested) → c ≡ letter → ((q : List ℕ) → Given q T' r → TestedAs q rows c row t) → TestedAs q rows letter row t
+  has_tested rows letter c row t w e = rw (← w) (e q h.told)
+
+pub ruleset tabled = (may_test, has_tested, enough)

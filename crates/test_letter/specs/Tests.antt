@@ -1,7 +1,10 @@
 -- What the test of a letter promises, and what its steps ask.
-use Rattle.std.specs.Prelude.{◌≡◌, Bool, List, ℕ, ℤ}
+use Rattle.std.specs.Prelude.{◌≡◌, Result, Ok, Err, Bool, List, ℕ, ℤ}
 use Rattle.rules.specs.Basics.{pick}
 use Rattle.rules.specs.Answers.{test_of}
+use Rattle.refusals.specs.Refusals.{answer_of, offset_of}
+use Rattle.refusals.specs.declared.Refusal.{Refusal}
+use Rattle.judging.specs.declared.Judged.{Judged}
 use Rattle.prepared.specs.Ready.{Given}
 use Rattle.prepared.specs.declared.Prepared.{Prepared}
 use Rattle.test_letter.specs.declared.Tested.{Tested}
@@ -20,7 +23,11 @@ refused_test a k = record { answer = a; holds = 0; judged = 0; offset = k }
 abbrev pub tested : Bool → ℕ → Tested
 tested h k = record { answer = 0; holds = pick h 1 0; judged = k; offset = 0 }
 
+abbrev pub told : Result Judged Refusal → Tested
+told (Ok j) = tested j.holds j.count
+told (Err e) = refused_test (answer_of e) (offset_of e)
+
 -- the table and its numbers are told of some query
-pub record Asks (T : List ℕ) (p : Prepared) : Type 0 where
+pub record Asks (T : List ℕ) (r : Result Prepared Refusal) : Type 0 where
   pub query : List ℕ
-  pub given : Given query T p
+  pub given : Given query T r

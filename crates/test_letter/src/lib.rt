@@ -5,14 +5,16 @@
 #![tactic(auto)]
 
 ghost use Rattle.std.specs.Prelude.{◌≡◌, List, ℕ, ◌+◌, ◌≤◌, min};
+ghost use Rattle.refusals.specs.Refusals.{answer_of, offset_of};
 ghost use Rattle.prepared.specs.Ready.{Given};
-ghost use Rattle.test_letter.specs.Tests.{Asks, TestedAs, refused_test, tested};
+ghost use Rattle.test_letter.specs.Tests.{Asks, TestedAs, refused_test, tested, told};
 
 use comparisons::far_back;
-use judging::judge_letter;
+use judging::{Judged, judge_letter};
 use numbers::wide8;
 use prepared::{Prepared, prepare};
-use sizes::bad_rows;
+use refusals::Refusal;
+use sizes::rows_of;
 use table_room::tests_at;
 
 // The letters A and Z, and the words of a letter in the table.
@@ -26,7 +28,8 @@ const LETTER: usize = 16;
 const FURTHEST: usize = 64;
 
 // What a test returns: the answer 1 to 10 or 14, with the offset of 5 and 14, or 0; and where it is
-// 0, whether the letter holds (1 or 0), and how many comparisons were judged.
+// 0, whether the letter holds (1 or 0), and how many comparisons were judged. It is the C interface's
+// struct, so a number and no `Result`.
 #[repr(C)]
 #[derive(Clone, Copy)]
 pub struct Tested {
@@ -36,25 +39,29 @@ pub struct Tested {
     pub offset: usize,
 }
 
-fn refused(answer: usize, offset: usize) -> Tested
-    ensures { result ≡ refused_test answer offset }
-{
-    Tested {
-        answer,
-        holds: 0,
-        judged: 0,
-        offset,
+impl From<Refusal> for Tested {
+    ghost from_gives = { λ why r. r ≡ refused_test (answer_of why) (offset_of why) };
+
+    fn from(why: Refusal) -> Tested {
+        Tested {
+            answer: why.answer(),
+            holds: 0,
+            judged: 0,
+            offset: why.offset(),
+        }
     }
 }
 
-fn found(holds: bool, judged: usize) -> Tested
-    ensures { result ≡ tested holds judged }
-{
-    Tested {
-        answer: 0,
-        holds: holds as usize,
-        judged,
-        offset: 0,
+impl From<Judged> for Tested {
+    ghost from_gives = { λ judged r. r ≡ tested judged.holds judged.count };
+
+    fn from(judged: Judged) -> Tested {
+        Tested {
+            answer: 0,
+            holds: usize::from(judged.holds),
+            judged: judged.count,
+            offset: 0,
+        }
     }
 }
 
@@ -71,36 +78,40 @@ fn nearest(row: usize, n: usize) -> usize
 }
 
 // The test of a letter of a prepared query.
-fn test_prepared(table: &[u16], p: Prepared, rows: &[i32], letter: usize, row: usize) -> Tested
-    requires { Asks table.now p }
-    ensures { (q : List ℕ) → Given q table.now p → TestedAs q rows.now letter row result }
+#[tactic(auto, using(crate::proofs::Answering::tests))]
+fn test_prepared(
+    table: &[u16],
+    prepared: Result<Prepared, Refusal>,
+    rows: &[i32],
+    letter: usize,
+    row: usize,
+) -> Result<Judged, Refusal>
+    requires { Asks table.now prepared }
+    ensures { (q : List ℕ) → Given q table.now prepared → TestedAs q rows.now letter row (told result) }
 {
-    let answer = p.answer;
-    if answer != 0 {
-        return refused(answer, p.offset);
-    }
+    let p = prepared?;
     let columns = p.columns;
-    if bad_rows(rows.len(), columns) {
-        return refused(10, 0);
+    let present = rows_of(rows.len(), columns)?;
+    if letter < FIRST_LETTER || letter > LAST_LETTER {
+        return Ok(Judged {
+            holds: true,
+            count: 0,
+        });
     }
-    if letter < FIRST_LETTER {
-        return found(true, 0);
-    }
-    if letter > LAST_LETTER {
-        return found(true, 0);
-    }
-    let base = nearest(row, rows.len() / columns) * columns;
-    let from = far_back(columns, base);
+    let from = far_back(columns, nearest(row, present) * columns);
     let at = tests_at(p.places) + (letter - FIRST_LETTER) * LETTER;
-    let judged = judge_letter(table, at, rows, from);
-    found(judged.holds, judged.count)
+    Ok(judge_letter(table, at, rows, from))
 }
 
 // The test of a letter, by its byte, at a row.
+#[tactic(auto, using(crate::proofs::Answering::tabled))]
 pub fn test_letter(query: &[u8], rows: &[i32], letter: u8, row: usize) -> Tested
     ensures { TestedAs query.now rows.now letter row result }
 {
     let mut table = [0u16; 16076];
-    let p = prepare(query, &mut table);
-    test_prepared(&table, p, rows, wide8(letter), row)
+    let prepared = prepare(query, &mut table).unwrap();
+    match test_prepared(&table, prepared, rows, wide8(letter), row) {
+        Ok(judged) => Tested::from(judged),
+        Err(refusal) => Tested::from(refusal),
+    }
 }

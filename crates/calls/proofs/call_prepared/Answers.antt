@@ -1,35 +1,25 @@
--- `calls::call_prepared` meets its contract by the laws of Refusing.
-use Rattle.calls.proofs.Refusing.{query_refuses, may_look, ahead-refuses, small, numbers-refuse, entries_fit, part-long, may_go, call-taken, bounds_refuse}
+-- `calls::call_prepared` meets its contract by the laws of Refusing, one for each way through it.
 use mathlib.Core.Path.{refl}
-use borrow.Author.Rules.{rules}
+use Rattle.calls.proofs.Refusing.{own_refuses, may_look, entries_fit, part_long, may_go, call_refuses, call_taken}
 use Rattle.calls.proofs.call_prepared.Goals as goal
 
-pub returns-then-told-ne0 : goal.returns-then-told-ne0
-returns-then-told-ne0 c = query_refuses _ _ _ c.requires.1 _ _ _ _ _ c.if-told-ne0.true _ c.refuse.ensures
+pub returns-in-Err : goal.returns-in-Err
+returns-in-Err c = rw c.in-Err.is (own_refuses _ _ c.requires.1 _ _ _ _ _ _ _ c.refuse.ensures)
 
-pub looks_ahead-requires : goal.looks_ahead-requires
-looks_ahead-requires c = may_look _ _ c.requires.0 c.if-told-ne0.false
+pub admit-requires : goal.admit-requires
+admit-requires c = may_look _ _ (rw c.in-Ok.is at c.requires.0)
 
-pub returns-then-looks_ahead : goal.returns-then-looks_ahead
-returns-then-looks_ahead c = ahead-refuses _ _ _ c.requires.1 _ _ _ _ _ c.if-told-ne0.false _ c.looks_ahead.ensures c.if-looks_ahead.true _ c.refuse-then-looks_ahead.ensures
+pub overflow_mul-part : goal.overflow_mul-part
+overflow_mul-part c = entries_fit _ _ (rw c.in-Ok.is at c.requires.0) _ _ _ _ _ _ c.in-Ok-admit.ensures
 
-pub lot_answer-answer-requires : goal.lot_answer-answer-requires
-lot_answer-answer-requires c = small _ _ c.requires.0 c.if-told-ne0.false c.args.call _ _ _
-
-pub returns-then-answer-ne0 : goal.returns-then-answer-ne0
-returns-then-answer-ne0 c = numbers-refuse _ _ _ c.requires.1 _ _ _ _ _ c.if-told-ne0.false _ c.looks_ahead.ensures c.if-looks_ahead.false _ c.lot_answer-answer.ensures c.if-answer-ne0.true _ c.refuse-then-answer-ne0.ensures
-
-pub overflow_mul-entries : goal.overflow_mul-entries
-overflow_mul-entries c = entries_fit _ _ c.requires.0 c.if-told-ne0.false c.args.call c.args.rows.now c.args.notes.now c.args.trail.now _ c.lot_answer-answer.ensures c.if-answer-ne0.false
-
-pub slice_bounds-go-end : goal.slice_bounds-go-end
-slice_bounds-go-end c = part-long _ _ c.requires.0 c.if-told-ne0.false c.args.call c.args.rows.now c.args.notes.now c.args.trail.now _ c.lot_answer-answer.ensures c.if-answer-ne0.false
+pub slice_bounds-part-end : goal.slice_bounds-part-end
+slice_bounds-part-end c = part_long _ _ (rw c.in-Ok.is at c.requires.0) _ _ _ _ _ _ c.in-Ok-admit.ensures
 
 pub go-requires : goal.go-requires
-go-requires c = may_go _ _ c.requires.0 c.if-told-ne0.false _ _ _ _ _ c.lot_answer-answer.ensures c.if-answer-ne0.false _ _ c.within.ensures c.if-within.true
+go-requires c = may_go _ _ (rw c.in-Ok.is at c.requires.0) _ _ _ _ _ _ c.in-Ok-admit.ensures
 
-pub returns-then-within : goal.returns-then-within
-returns-then-within c = call-taken _ _ _ c.requires.1 _ _ _ _ _ c.if-told-ne0.false _ c.looks_ahead.ensures c.if-looks_ahead.false _ c.lot_answer-answer.ensures c.if-answer-ne0.false _ c.within.ensures _ refl _ _ _ _ _ c.go.ensures
+pub returns-in-Ok-admit : goal.returns-in-Ok-admit
+returns-in-Ok-admit c = rw c.in-Ok.is (call_taken _ _ c.requires.1 _ _ _ _ _ _ _ c.in-Ok-admit.ensures _ refl _ _ _ _ _ c.go.ensures)
 
-pub returns : goal.returns
-returns c = bounds_refuse _ _ _ c.requires.1 _ _ _ _ _ c.if-told-ne0.false _ c.looks_ahead.ensures c.if-looks_ahead.false _ c.lot_answer-answer.ensures c.if-answer-ne0.false _ c.within.ensures c.if-within.false _
+pub returns-in-Err-admit : goal.returns-in-Err-admit
+returns-in-Err-admit c = rw c.in-Ok.is (call_refuses _ _ c.requires.1 _ _ _ _ _ _ _ c.in-Err-admit.ensures _ c.refuse-in-Err-admit.ensures)

@@ -2,11 +2,6 @@
 use mathlib.Core.Path.{refl}
 use Rattle.prepared.proofs.Filling.{fill_entries, fill_measured, fill_behind, fill_count, fill_room, fill_tests, fill_places, fill_points, fill_ready}
 use borrow.Author.Rules.{rules}
-use Rattle.prepared.proofs.fill.Reads as reads
-use Rattle.prepared.proofs.fill.Lts as lts
-use Rattle.measure_list.proofs.put_in_table.Reads as put-in-table-reads
-use Rattle.places.proofs.unroll.Reads as unroll-reads
-use Rattle.tests.proofs.put_tests.Reads as put-tests-reads
 use Rattle.prepared.proofs.fill.Goals as goal
 
 pub overflow_mul-entries : goal.overflow_mul-entries
@@ -31,4 +26,4 @@ pub point-requires : goal.point-requires
 point-requires c = search (rules, fill_points)
 
 pub returns : goal.returns
-returns c = record { ready = (refl, fill_ready _ _ _ _ _ _ c.requires _ c.put_in_table.ensures _ c.put_tests.ensures _ _ c.unroll-end.ensures _ c.point.ensures _ refl) }
+returns c = record { ready = fill_ready _ _ _ _ _ _ c.requires _ c.put_in_table.ensures _ c.put_tests.ensures _ _ c.unroll-end.ensures _ c.point.ensures _ refl }

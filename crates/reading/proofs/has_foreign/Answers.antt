@@ -1,16 +1,9 @@
--- `reading::has_foreign` meets its contract by the laws of Laws. The invariant and the measure of
--- its loop come first.
-use borrow.Author.Rules.{rules}
-use Prim.Native.Nat.{◌-◌}
-use Rattle.reading.proofs.Laws.{Known, known-none, known_more, known-all}
+-- One measure's letter more is known, or is not.
+use Rattle.reading.proofs.Laws.{known_none, known_more}
 use Rattle.reading.proofs.has_foreign.Goals as goal
 
 pub loop-k-init : goal.loop-k-init
-loop-k-init c = search (rules, known-none)
+loop-k-init c = known_none _ _ _ _ _ c.is_known-known.ensures
 
 pub loop-k-preserved : goal.loop-k-preserved
-loop-k-preserved c = known_more _ _ _ _ _ _ _ _ c.loop-k.invariant c.loop-k-test.true
-    c.measure_at-m.ensures c.is_known.ensures _ c.both-known.ensures
-
-pub returns : goal.returns
-returns c = search (rules, known-all)
+loop-k-preserved c = known_more _ _ _ _ _ _ _ _ c.loop-k.invariant c.loop-k-test.true c.measure_at-m.ensures c.is_known-known-in-loop-k.ensures
