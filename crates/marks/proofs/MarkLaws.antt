@@ -2,7 +2,6 @@
 use mathlib.Core.Path.{◌≡◌, refl, sym, ap, ◌∙◌}
 use mathlib.Core.Bool.{Bool, true, false}
 use mathlib.Core.List.{List}
-use mathlib.Core.Option.{none}
 use Prim.Native.Nat.{ℕ, ◌+◌, ◌≤◌, ◌<◌}
 use native.Mathlib.Omega.{arith}
 use lib.Dec.{eqb}
@@ -17,6 +16,8 @@ use Rattle.marks.specs.Shows.{code_of, highest, high_of, Codes, bounded_by, Show
 use Rattle.text_bytes.specs.Numerals.{Numeral, BoundReached}
 use Rattle.text_bytes.specs.declared.Bound.{Bound}
 use Rattle.text_bytes.specs.declared.Broken.{Broken}
+use Rattle.nodes.specs.declared.Form.{Form as Kind}
+use Rattle.nodes.specs.declared.Form.TheVariants.{Star, Plus, Opt, Exactly, AtLeast, AtMost, Between}
 use Rattle.marks.specs.declared.Mark.{Mark}
 use Rattle.text_bytes.proofs.ByteLaws.{inside, rest-drop, says-bad, says-got}
 
@@ -34,10 +35,10 @@ weaken s a b (Ok r) (marked f z u) h g = record { codes = g.codes; lazy = g.lazy
 abbrev broken_at : ℕ → Result Mark Broken
 broken_at at = Err (record { at = at })
 
-abbrev pub Reluct : List ℕ → ℕ → ℕ → ℕ → ℕ → Mark → Type 0
+abbrev pub Reluct : List ℕ → ℕ → Kind → ℕ → ℕ → Mark → Type 0
 Reluct s at form low high r = (f : Form) → Codes f form low high → Shown s at (Ok r) (reluctant f (drop at s))
 
-abbrev pub Shut : List ℕ → ℕ → ℕ → ℕ → ℕ → Result Mark Broken → Type 0
+abbrev pub Shut : List ℕ → ℕ → Kind → ℕ → ℕ → Result Mark Broken → Type 0
 Shut s at form low high r = (f : ℕ → Form) → Codes (f high) form low high → bounded_by (f high) low high → Shown s at r (shut f (got high (drop at s)))
 
 module _ (s : List ℕ) (at b : ℕ) (eb : b ≡ peek (drop at s)) where
@@ -49,7 +50,7 @@ module _ (s : List ℕ) (at b : ℕ) (eb : b ≡ peek (drop at s)) where
       go true q = let l = inside s at 63 (omega arith) (sym eb ∙ eqb-true b 63 q) in let z : k ≡ 1 = e ∙ ap bool_byte q in omega arith
       go false q = let z : k ≡ 0 = e ∙ ap bool_byte q in omega arith
 
-  pub reluctant-is : (form low high k to : ℕ) → k ≡ bool_byte (eqb b 63) → (drop to s ≡ skip_spaces (drop (at + k) s)) × (at + k ≤ to) × (to ≤ length s)
+  pub reluctant-is : (form : Kind) (low high k to : ℕ) → k ≡ bool_byte (eqb b 63) → (drop to s ≡ skip_spaces (drop (at + k) s)) × (at + k ≤ to) × (to ≤ length s)
       → Reluct s at form low high (record { form = form; low = low; high = high; lazy = eqb b 63; at = to })
   unfolding reluctant Shown
   reluctant-is form low high k to e h f g =
@@ -65,7 +66,7 @@ module _ (s : List ℕ) (at b : ℕ) (eb : b ≡ peek (drop at s)) where
           let n : at + k ≡ at = (let z : k ≡ 0 = e ∙ ap bool_byte q in omega arith) in
           record { codes = g; lazy = refl; rest = sym (h.0 ∙ ap (λ (i : ℕ). skip_spaces (drop i s)) n); on = omega (arith, h.1); inside = h.2 }
 
-  module _ (form low high : ℕ) where
+  module _ (form : Kind) (low high : ℕ) where
     pub shut_open : at ≤ length s → (b ≡ 125 → ⊥) → Shut s at form low high (broken_at at)
     unfolding shut Shown
     shut_open i e f k o = simp (ne_eqb (peek (drop at s)) 125 (λ x. e (eb ∙ x))) (record { rest = refl; inside = i })
@@ -79,7 +80,7 @@ module _ (s : List ℕ) (at b : ℕ) (eb : b ≡ peek (drop at s)) where
     shut-fine r e h l g f k o =
         simp (eq-eqb (peek (drop at s)) 125 (sym eb ∙ e), o.fine h l, rest-drop s at) (weaken s at (at + 1) (Ok r) _ (omega arith) (g (f high) k))
 
-  pub up-shut : (n : ℕ) (r : Mark) → n ≤ 99 → b ≡ 125 → Reluct s (at + 1) 5 n 100 r → Shown s at (Ok r) (up_to n (drop at s))
+  pub up-shut : (n : ℕ) (r : Mark) → n ≤ 99 → b ≡ 125 → Reluct s (at + 1) AtLeast n 100 r → Shown s at (Ok r) (up_to n (drop at s))
   unfolding up_to bounded code_of lower high_of highest upper
   up-shut n r l e g =
       simp (eq-eqb (peek (drop at s)) 125 (sym eb ∙ e), le-leb n 99 l, rest-drop s at)
@@ -105,7 +106,7 @@ module _ (s : List ℕ) (at b : ℕ) (eb : b ≡ peek (drop at s)) where
       let k = says-bad s at e _ h.numeral.says in
       rw (ne_eqb (peek (drop at s)) 125 (λ x. g (eb ∙ x)), k.is) (record { rest = refl; inside = k.inside })
 
-  pub up-got : (n : ℕ) (m : Bound) (r : Result Mark Broken) → (b ≡ 125 → ⊥) → BoundReached s at n (Ok m) → Shut s m.at 7 n m.value r → Shown s at r (up_to n (drop at s))
+  pub up-got : (n : ℕ) (m : Bound) (r : Result Mark Broken) → (b ≡ 125 → ⊥) → BoundReached s at n (Ok m) → Shut s m.at Between n m.value r → Shown s at r (up_to n (drop at s))
   unfolding up_to code_of lower high_of highest upper
   up-got n m r e h g =
       let k = says-got s at m _ h.numeral.says in
@@ -119,7 +120,7 @@ module _ (s : List ℕ) (at b : ℕ) (eb : b ≡ peek (drop at s)) where
       let k = says-bad s (at + 1) e _ h.numeral.says in
       rw (eq-eqb (peek (drop at s)) 44 (sym eb ∙ g), rest-drop s at, k.is) (record { rest = refl; inside = k.inside })
 
-  pub brace_comma : (m : Bound) (r : Result Mark Broken) → b ≡ 44 → BoundReached s (at + 1) 1 (Ok m) → Shut s m.at 6 0 m.value r → Shown s at r (braces (drop at s))
+  pub brace_comma : (m : Bound) (r : Result Mark Broken) → b ≡ 44 → BoundReached s (at + 1) 1 (Ok m) → Shut s m.at AtMost 0 m.value r → Shown s at r (braces (drop at s))
   unfolding braces code_of lower high_of highest upper
   brace_comma m r e h g =
       let k = says-got s (at + 1) m _ h.numeral.says in
@@ -141,7 +142,7 @@ module _ (s : List ℕ) (at b : ℕ) (eb : b ≡ peek (drop at s)) where
         rw (ne_eqb (peek (drop at s)) 44 (λ x. e (eb ∙ x)), k.is, eq-eqb (peek (drop m.at s)) 44 (sym ec ∙ i), rest-drop s m.at)
         (weaken s at (m.at + 1) r _ (omega (arith, k.on)) g)
 
-    pub brace_exactly : (b ≡ 44 → ⊥) → Numeral s at (Ok m) (number (drop at s)) → (c ≡ 44 → ⊥) → Shut s m.at 4 m.value m.value r → Shown s at r (braces (drop at s))
+    pub brace_exactly : (b ≡ 44 → ⊥) → Numeral s at (Ok m) (number (drop at s)) → (c ≡ 44 → ⊥) → Shut s m.at Exactly m.value m.value r → Shown s at r (braces (drop at s))
     unfolding braces from code_of lower high_of highest upper
     brace_exactly e h i g =
         let k = says-got s at m _ h.says in
@@ -168,15 +169,15 @@ module _ (s : List ℕ) (at b : ℕ) (eb : b ≡ peek (drop at s)) where
   is_ne : (c : ℕ) → (b ≡ c → ⊥) → eqb (peek (drop at s)) c ≡ false
   is_ne c e = ne_eqb (peek (drop at s)) c (λ x. e (eb ∙ x))
 
-  pub mark-star : (r : Mark) → b ≡ 42 → Reluct s (at + 1) 1 0 100 r → Shows s at (Ok (Some r)) (quantifier (drop at s))
+  pub mark-star : (r : Mark) → b ≡ 42 → Reluct s (at + 1) Star 0 100 r → Shows s at (Ok (Some r)) (quantifier (drop at s))
   unfolding quantifier code_of lower high_of highest upper
   mark-star r e g = simp (is_eq 42 e, rest-drop s at) (began s at r _ (g star (record { code = refl; from = refl; upto = refl })))
 
-  pub mark-plus : (r : Mark) → b ≡ 43 → Reluct s (at + 1) 2 1 100 r → Shows s at (Ok (Some r)) (quantifier (drop at s))
+  pub mark-plus : (r : Mark) → b ≡ 43 → Reluct s (at + 1) Plus 1 100 r → Shows s at (Ok (Some r)) (quantifier (drop at s))
   unfolding quantifier code_of lower high_of highest upper
   mark-plus r e g = simp (is_ne 42 (λ x. omega arith), is_eq 43 e, rest-drop s at) (began s at r _ (g plus (record { code = refl; from = refl; upto = refl })))
 
-  pub mark-opt : (r : Mark) → b ≡ 63 → Reluct s (at + 1) 3 0 1 r → Shows s at (Ok (Some r)) (quantifier (drop at s))
+  pub mark-opt : (r : Mark) → b ≡ 63 → Reluct s (at + 1) Opt 0 1 r → Shows s at (Ok (Some r)) (quantifier (drop at s))
   unfolding quantifier code_of lower high_of highest upper
   mark-opt r e g = simp (is_ne 42 (λ x. omega arith), is_ne 43 (λ x. omega arith), is_eq 63 e, rest-drop s at)
       (began s at r _ (g opt (record { code = refl; from = refl; upto = refl })))

@@ -5,17 +5,19 @@ use Rattle.rules.specs.Language.{Form, star, plus, opt, exactly, at_least, at_mo
 use Rattle.rules.specs.Reader.{bounded, Marked, unmarked, broken, marked}
 use Rattle.text_bytes.specs.Numerals.{Stops}
 use Rattle.text_bytes.specs.declared.Broken.{Broken}
+use Rattle.nodes.specs.declared.Form.{Form as Kind}
+use Rattle.nodes.specs.declared.Form.TheVariants.{Star, Plus, Opt, Exactly, AtLeast, AtMost, Between}
 use Rattle.marks.specs.declared.Mark.{Mark}
 
--- a form's number
-unfoldable pub code_of : Form → ℕ
-code_of star = 1
-code_of plus = 2
-code_of opt = 3
-code_of (exactly n) = 4
-code_of (at_least n) = 5
-code_of (at_most m) = 6
-code_of (between n m) = 7
+-- a form without its bounds
+unfoldable pub code_of : Form → Kind
+code_of star = Star
+code_of plus = Plus
+code_of opt = Opt
+code_of (exactly n) = Exactly
+code_of (at_least n) = AtLeast
+code_of (at_most m) = AtMost
+code_of (between n m) = Between
 
 -- an upper bound as a number: 100 for none
 unfoldable pub highest : Upper ℕ → ℕ
@@ -26,7 +28,7 @@ unfoldable pub high_of : Form → ℕ
 unfolding highest upper
 high_of f = highest (upper f)
 
-pub record Codes (f : Form) (form low high : ℕ) : Type 0 where
+pub record Codes (f : Form) (form : Kind) (low high : ℕ) : Type 0 where
   pub code : form ≡ code_of f
   pub from : low ≡ lower f
   pub upto : high ≡ high_of f

@@ -8,36 +8,38 @@ use lib.Dec.{eqb}
 use borrow.Author.Tests.{eq-eqb, ne_eqb}
 use lib.ListN.{length, get_or, set, take, drop, length-append, length-set, get_or-append}
 use lib.Seq.{sets-eq, length-take-le, get_or-append-add, get_or-set_other}
-use Rattle.nodes.specs.Nodes.{node_at, put_node, sort_of, word_of, bit_of_bool}
+use Rattle.nodes.specs.Nodes.{node_at, put_node, sort_of, word_of, form_of, number_of, bit_of_bool}
+use Rattle.nodes.specs.declared.Form.{Form}
+use Rattle.nodes.specs.declared.Form.TheVariants.{Bare, Star, Plus, Opt, Exactly, AtLeast, AtMost, Between}
 use Rattle.nodes.specs.declared.Sort.{Sort}
 use Rattle.nodes.specs.declared.Sort.TheVariants.{Letter, Anchor, Empty, Sequence, Alternation, Group}
 use Rattle.nodes.specs.declared.Node.{Node}
 
 put_sets : (s : List ℕ) (i : ℕ) (n : Node) → 8 * i + 8 ≤ length s
-    → put_node s i n ≡ take (i * 8) s ++ (word_of n.sort ∷ (n.form * 2 + bit_of_bool n.lazy) ∷ n.low ∷ n.high ∷ n.left ∷ n.right ∷ n.height ∷ n.places ∷ []) ++ drop
+    → put_node s i n ≡ take (i * 8) s ++ (word_of n.sort ∷ (number_of n.form * 2 + bit_of_bool n.lazy) ∷ n.low ∷ n.high ∷ n.left ∷ n.right ∷ n.height ∷ n.places ∷ []) ++ drop
     (i * 8 + 8) s
 unfolding put_node
 put_sets s i n h =
-    ap (λ (k : ℕ). set (set (set (set (set (set (set (set s (i * 8) (word_of n.sort)) k (n.form * 2 + bit_of_bool n.lazy)) (i * 8 + 2) n.low) (i * 8 + 3) n.high)
+    ap (λ (k : ℕ). set (set (set (set (set (set (set (set s (i * 8) (word_of n.sort)) k (number_of n.form * 2 + bit_of_bool n.lazy)) (i * 8 + 2) n.low) (i * 8 + 3) n.high)
     (i * 8 + 4) n.left) (i * 8 + 5) n.right) (i * 8 + 6) n.height) (i * 8 + 7) n.places) (let e : i * 8 + 1 ≡ suc (i * 8) = omega arith in e)
-    ∙ ap (λ (k : ℕ). set (set (set (set (set (set (set (set s (i * 8) (word_of n.sort)) (suc (i * 8)) (n.form * 2 + bit_of_bool n.lazy)) k n.low) (i * 8 + 3) n.high)
+    ∙ ap (λ (k : ℕ). set (set (set (set (set (set (set (set s (i * 8) (word_of n.sort)) (suc (i * 8)) (number_of n.form * 2 + bit_of_bool n.lazy)) k n.low) (i * 8 + 3) n.high)
     (i * 8 + 4) n.left) (i * 8 + 5) n.right) (i * 8 + 6) n.height) (i * 8 + 7) n.places) (let e : i * 8 + 2 ≡ suc (suc (i * 8)) = omega arith in e)
-    ∙ ap (λ (k : ℕ). set (set (set (set (set (set (set (set s (i * 8) (word_of n.sort)) (suc (i * 8)) (n.form * 2 + bit_of_bool n.lazy)) (suc (suc (i * 8))) n.low) k
+    ∙ ap (λ (k : ℕ). set (set (set (set (set (set (set (set s (i * 8) (word_of n.sort)) (suc (i * 8)) (number_of n.form * 2 + bit_of_bool n.lazy)) (suc (suc (i * 8))) n.low) k
     n.high) (i * 8 + 4) n.left) (i * 8 + 5) n.right) (i * 8 + 6) n.height) (i * 8 + 7) n.places)
     (let e : i * 8 + 3 ≡ suc (suc (suc (i * 8))) = omega arith in e)
-    ∙ ap (λ (k : ℕ). set (set (set (set (set (set (set (set s (i * 8) (word_of n.sort)) (suc (i * 8)) (n.form * 2 + bit_of_bool n.lazy)) (suc (suc (i * 8))) n.low)
+    ∙ ap (λ (k : ℕ). set (set (set (set (set (set (set (set s (i * 8) (word_of n.sort)) (suc (i * 8)) (number_of n.form * 2 + bit_of_bool n.lazy)) (suc (suc (i * 8))) n.low)
     (suc (suc (suc (i * 8)))) n.high) k n.left) (i * 8 + 5) n.right) (i * 8 + 6) n.height) (i * 8 + 7) n.places)
     (let e : i * 8 + 4 ≡ suc (suc (suc (suc (i * 8)))) = omega arith in e)
-    ∙ ap (λ (k : ℕ). set (set (set (set (set (set (set (set s (i * 8) (word_of n.sort)) (suc (i * 8)) (n.form * 2 + bit_of_bool n.lazy)) (suc (suc (i * 8))) n.low)
+    ∙ ap (λ (k : ℕ). set (set (set (set (set (set (set (set s (i * 8) (word_of n.sort)) (suc (i * 8)) (number_of n.form * 2 + bit_of_bool n.lazy)) (suc (suc (i * 8))) n.low)
     (suc (suc (suc (i * 8)))) n.high) (suc (suc (suc (suc (i * 8))))) n.left) k n.right) (i * 8 + 6) n.height) (i * 8 + 7) n.places)
     (let e : i * 8 + 5 ≡ suc (suc (suc (suc (suc (i * 8))))) = omega arith in e)
-    ∙ ap (λ (k : ℕ). set (set (set (set (set (set (set (set s (i * 8) (word_of n.sort)) (suc (i * 8)) (n.form * 2 + bit_of_bool n.lazy)) (suc (suc (i * 8))) n.low)
+    ∙ ap (λ (k : ℕ). set (set (set (set (set (set (set (set s (i * 8) (word_of n.sort)) (suc (i * 8)) (number_of n.form * 2 + bit_of_bool n.lazy)) (suc (suc (i * 8))) n.low)
     (suc (suc (suc (i * 8)))) n.high) (suc (suc (suc (suc (i * 8))))) n.left) (suc (suc (suc (suc (suc (i * 8)))))) n.right) k n.height) (i * 8 + 7) n.places)
     (let e : i * 8 + 6 ≡ suc (suc (suc (suc (suc (suc (i * 8)))))) = omega arith in e)
-    ∙ ap (λ (k : ℕ). set (set (set (set (set (set (set (set s (i * 8) (word_of n.sort)) (suc (i * 8)) (n.form * 2 + bit_of_bool n.lazy)) (suc (suc (i * 8))) n.low)
+    ∙ ap (λ (k : ℕ). set (set (set (set (set (set (set (set s (i * 8) (word_of n.sort)) (suc (i * 8)) (number_of n.form * 2 + bit_of_bool n.lazy)) (suc (suc (i * 8))) n.low)
     (suc (suc (suc (i * 8)))) n.high) (suc (suc (suc (suc (i * 8))))) n.left) (suc (suc (suc (suc (suc (i * 8)))))) n.right)
     (suc (suc (suc (suc (suc (suc (i * 8))))))) n.height) k n.places) (let e : i * 8 + 7 ≡ suc (suc (suc (suc (suc (suc (suc (i * 8))))))) = omega arith in e)
-    ∙ sets-eq (word_of n.sort ∷ (n.form * 2 + bit_of_bool n.lazy) ∷ n.low ∷ n.high ∷ n.left ∷ n.right ∷ n.height ∷ n.places ∷ []) s (i * 8) (omega arith)
+    ∙ sets-eq (word_of n.sort ∷ (number_of n.form * 2 + bit_of_bool n.lazy) ∷ n.low ∷ n.high ∷ n.left ∷ n.right ∷ n.height ∷ n.places ∷ []) s (i * 8) (omega arith)
 
 window : (s vs : List ℕ) (a k : ℕ) → a + length vs ≤ length s → k < length vs → get_or (take a s ++ vs ++ drop (a + length vs) s) (a + k) 0 ≡ get_or vs k 0
 window s vs a k h l =
@@ -68,15 +70,26 @@ form_back : (f : ℕ) (b : Bool) → (f * 2 + bit_of_bool b) / 2 ≡ f
 form_back f true = omega arith
 form_back f false = omega arith
 
+form-number : (f : Form) → form_of (number_of f) ≡ f
+unfolding form_of
+form-number Bare = refl
+form-number Star = refl
+form-number Plus = refl
+form-number Opt = refl
+form-number Exactly = refl
+form-number AtLeast = refl
+form-number AtMost = refl
+form-number Between = refl
+
 bit-back : (f : ℕ) (b : Bool) → eqb ((f * 2 + bit_of_bool b) % 2) 1 ≡ b
 bit-back f true = eq-eqb ((f * 2 + 1) % 2) 1 (omega arith)
 bit-back f false = ne_eqb ((f * 2 + 0) % 2) 1 (λ e. omega arith)
 
-node-is : (s : List ℕ) (i : ℕ) (n : Node) → get_or s (i * 8) 0 ≡ word_of n.sort → SmallSort n.sort → get_or s (i * 8 + 1) 0 ≡ n.form * 2 + bit_of_bool n.lazy
+node-is : (s : List ℕ) (i : ℕ) (n : Node) → get_or s (i * 8) 0 ≡ word_of n.sort → SmallSort n.sort → get_or s (i * 8 + 1) 0 ≡ number_of n.form * 2 + bit_of_bool n.lazy
     → get_or s (i * 8 + 2) 0 ≡ n.low → get_or s (i * 8 + 3) 0 ≡ n.high → get_or s (i * 8 + 4) 0 ≡ n.left → get_or s (i * 8 + 5) 0 ≡ n.right → get_or s (i * 8 + 6) 0 ≡ n.height
     → get_or s (i * 8 + 7) 0 ≡ n.places → node_at s i ≡ n
 unfolding node_at
-node-is s i n e0 k e1 e2 e3 e4 e5 e6 e7 = rw (e0, sort-word n.sort k, e1, form_back n.form n.lazy, bit-back n.form n.lazy, e2, e3, e4, e5, e6, e7) refl
+node-is s i n e0 k e1 e2 e3 e4 e5 e6 e7 = rw (e0, sort-word n.sort k, e1, form_back (number_of n.form) n.lazy, form-number n.form, bit-back (number_of n.form) n.lazy, e2, e3, e4, e5, e6, e7) refl
 
 -- what was put is read back
 pub read-put : (s : List ℕ) (i : ℕ) (n : Node) → 8 * i + 8 ≤ length s → SmallSort n.sort → node_at (put_node s i n) i ≡ n
@@ -87,7 +100,7 @@ read-put s i n h k =
     (at 1 (omega arith)) (at 2 (omega arith)) (at 3 (omega arith)) (at 4 (omega arith)) (at 5 (omega arith)) (at 6 (omega arith)) (at 7 (omega arith)))
   where
     vs : List ℕ
-    vs = word_of n.sort ∷ (n.form * 2 + bit_of_bool n.lazy) ∷ n.low ∷ n.high ∷ n.left ∷ n.right ∷ n.height ∷ n.places ∷ []
+    vs = word_of n.sort ∷ (number_of n.form * 2 + bit_of_bool n.lazy) ∷ n.low ∷ n.high ∷ n.left ∷ n.right ∷ n.height ∷ n.places ∷ []
 
     at : (j : ℕ) → j < 8 → get_or (take (i * 8) s ++ vs ++ drop (i * 8 + 8) s) (i * 8 + j) 0 ≡ get_or vs j 0
     at j l = window s vs (i * 8) j (omega arith) l
@@ -96,18 +109,18 @@ read-put s i n h k =
 pub put_other : (s : List ℕ) (i j : ℕ) (n : Node) → (8 * i ≤ j → j < 8 * i + 8 → ⊥) → get_or (put_node s i n) j 0 ≡ get_or s j 0
 unfolding put_node
 put_other s i j n h =
-    get_or-set_other (set (set (set (set (set (set (set s (i * 8) (word_of n.sort)) (i * 8 + 1) (n.form * 2 + bit_of_bool n.lazy)) (i * 8 + 2) n.low) (i * 8 + 3) n.high)
+    get_or-set_other (set (set (set (set (set (set (set s (i * 8) (word_of n.sort)) (i * 8 + 1) (number_of n.form * 2 + bit_of_bool n.lazy)) (i * 8 + 2) n.low) (i * 8 + 3) n.high)
     (i * 8 + 4) n.left) (i * 8 + 5) n.right) (i * 8 + 6) n.height) (i * 8 + 7) j n.places 0 (λ e. h (omega arith) (omega arith))
-    ∙ get_or-set_other (set (set (set (set (set (set s (i * 8) (word_of n.sort)) (i * 8 + 1) (n.form * 2 + bit_of_bool n.lazy)) (i * 8 + 2) n.low) (i * 8 + 3) n.high)
+    ∙ get_or-set_other (set (set (set (set (set (set s (i * 8) (word_of n.sort)) (i * 8 + 1) (number_of n.form * 2 + bit_of_bool n.lazy)) (i * 8 + 2) n.low) (i * 8 + 3) n.high)
     (i * 8 + 4) n.left) (i * 8 + 5) n.right) (i * 8 + 6) j n.height 0 (λ e. h (omega arith) (omega arith))
-    ∙ get_or-set_other (set (set (set (set (set s (i * 8) (word_of n.sort)) (i * 8 + 1) (n.form * 2 + bit_of_bool n.lazy)) (i * 8 + 2) n.low) (i * 8 + 3) n.high) (i * 8 + 4)
+    ∙ get_or-set_other (set (set (set (set (set s (i * 8) (word_of n.sort)) (i * 8 + 1) (number_of n.form * 2 + bit_of_bool n.lazy)) (i * 8 + 2) n.low) (i * 8 + 3) n.high) (i * 8 + 4)
     n.left) (i * 8 + 5) j n.right 0 (λ e. h (omega arith) (omega arith))
-    ∙ get_or-set_other (set (set (set (set s (i * 8) (word_of n.sort)) (i * 8 + 1) (n.form * 2 + bit_of_bool n.lazy)) (i * 8 + 2) n.low) (i * 8 + 3) n.high) (i * 8 + 4) j
+    ∙ get_or-set_other (set (set (set (set s (i * 8) (word_of n.sort)) (i * 8 + 1) (number_of n.form * 2 + bit_of_bool n.lazy)) (i * 8 + 2) n.low) (i * 8 + 3) n.high) (i * 8 + 4) j
     n.left 0 (λ e. h (omega arith) (omega arith))
-    ∙ get_or-set_other (set (set (set s (i * 8) (word_of n.sort)) (i * 8 + 1) (n.form * 2 + bit_of_bool n.lazy)) (i * 8 + 2) n.low) (i * 8 + 3) j n.high 0
+    ∙ get_or-set_other (set (set (set s (i * 8) (word_of n.sort)) (i * 8 + 1) (number_of n.form * 2 + bit_of_bool n.lazy)) (i * 8 + 2) n.low) (i * 8 + 3) j n.high 0
     (λ e. h (omega arith) (omega arith))
-    ∙ get_or-set_other (set (set s (i * 8) (word_of n.sort)) (i * 8 + 1) (n.form * 2 + bit_of_bool n.lazy)) (i * 8 + 2) j n.low 0 (λ e. h (omega arith) (omega arith))
-    ∙ get_or-set_other (set s (i * 8) (word_of n.sort)) (i * 8 + 1) j (n.form * 2 + bit_of_bool n.lazy) 0 (λ e. h (omega arith) (omega arith))
+    ∙ get_or-set_other (set (set s (i * 8) (word_of n.sort)) (i * 8 + 1) (number_of n.form * 2 + bit_of_bool n.lazy)) (i * 8 + 2) j n.low 0 (λ e. h (omega arith) (omega arith))
+    ∙ get_or-set_other (set s (i * 8) (word_of n.sort)) (i * 8 + 1) j (number_of n.form * 2 + bit_of_bool n.lazy) 0 (λ e. h (omega arith) (omega arith))
     ∙ get_or-set_other s (i * 8) j (word_of n.sort) 0 (λ e. h (omega arith) (omega arith))
 
 pub put_length : (s : List ℕ) (i : ℕ) (n : Node) → length (put_node s i n) ≡ length s

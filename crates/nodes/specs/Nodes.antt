@@ -4,6 +4,8 @@ use Rattle.std.specs.Prelude.{Bool, true, false, List, ℕ, ◌+◌, ◌*◌, �
 use Rattle.rules.specs.Basics.{pick}
 use Rattle.nodes.specs.declared.Sort.{Sort}
 use Rattle.nodes.specs.declared.Sort.TheVariants.{Letter, Anchor, Empty, Sequence, Alternation, Group}
+use Rattle.nodes.specs.declared.Form.{Form}
+use Rattle.nodes.specs.declared.Form.TheVariants.{Bare, Star, Plus, Opt, Exactly, AtLeast, AtMost, Between}
 use Rattle.nodes.specs.declared.Node.{Node}
 
 unfoldable pub sort_of : ℕ → Sort
@@ -22,16 +24,37 @@ word_of Sequence = 768
 word_of Alternation = 1024
 word_of Group = 1280
 
+unfoldable pub form_of : ℕ → Form
+form_of w =
+    pick (eqb w 0) Bare
+    (pick (eqb w 1) Star
+    (pick (eqb w 2) Plus
+    (pick (eqb w 3) Opt
+    (pick (eqb w 4) Exactly
+    (pick (eqb w 5) AtLeast
+    (pick (eqb w 6) AtMost Between))))))
+
+-- a form's number
+abbrev pub number_of : Form → ℕ
+number_of Bare = 0
+number_of Star = 1
+number_of Plus = 2
+number_of Opt = 3
+number_of Exactly = 4
+number_of AtLeast = 5
+number_of AtMost = 6
+number_of Between = 7
+
 abbrev pub bit_of_bool : Bool → ℕ
 bit_of_bool true = 1
 bit_of_bool false = 0
 
 unfoldable pub node_at : List ℕ → ℕ → Node
-unfolding sort_of
+unfolding sort_of form_of
 node_at s i =
     record {
       sort = sort_of (get_or s (i * 8) 0);
-      form = get_or s (i * 8 + 1) 0 / 2;
+      form = form_of (get_or s (i * 8 + 1) 0 / 2);
       lazy = eqb (get_or s (i * 8 + 1) 0 % 2) 1;
       low = get_or s (i * 8 + 2) 0;
       high = get_or s (i * 8 + 3) 0;
@@ -43,12 +66,11 @@ node_at s i =
 
 unfoldable pub put_node : List ℕ → ℕ → Node → List ℕ
 put_node s i n =
-    set (set (set (set (set (set (set (set s (i * 8) (word_of n.sort)) (i * 8 + 1) (n.form * 2 + bit_of_bool n.lazy)) (i * 8 + 2) n.low) (i * 8 + 3) n.high)
+    set (set (set (set (set (set (set (set s (i * 8) (word_of n.sort)) (i * 8 + 1) (number_of n.form * 2 + bit_of_bool n.lazy)) (i * 8 + 2) n.low) (i * 8 + 3) n.high)
     (i * 8 + 4) n.left) (i * 8 + 5) n.right) (i * 8 + 6) n.height) (i * 8 + 7) n.places
 
 -- a node whose numbers fit their words
 pub record Small (n : Node) : Type 0 where
-  pub form : n.form < 32768
   pub low : n.low < 65536
   pub high : n.high < 65536
   pub left : n.left < 65536

@@ -4,7 +4,7 @@
 #![tactic(auto)]
 
 ghost use Rattle.std.specs.Prelude.{◌≡◌, ◌+◌, ◌*◌, ◌≤◌, ◌<◌, ◌/◌, ◌%◌, eqb, length, get_or};
-ghost use Rattle.nodes.specs.Nodes.{node_at, sort_of};
+ghost use Rattle.nodes.specs.Nodes.{node_at, sort_of, form_of};
 
 use numbers::wide16;
 
@@ -18,14 +18,27 @@ pub enum Sort {
     Group,
 }
 
-// form: 0 no quantifier, 1 `*`, 2 `+`, 3 `?`, 4 `{n}`, 5 `{n,}`, 6 `{,m}`, 7 `{n,m}`. lazy: it is
-// reluctant. low, high: its bounds, high 100 if it is unbounded; 1 and 1 without a quantifier.
-// left, right: the numbers of its parts' nodes. height: above that of each part. places: how many
-// places it unrolls to, counted up to 257; of an alternation without its fork.
+// The form of a quantifier: `*`, `+`, `?`, `{n}`, `{n,}`, `{,m}` or `{n,m}`; Bare is none.
+#[derive(Clone, Copy)]
+pub enum Form {
+    Bare,
+    Star,
+    Plus,
+    Opt,
+    Exactly,
+    AtLeast,
+    AtMost,
+    Between,
+}
+
+// form: its quantifier. lazy: it is reluctant. low, high: its bounds, high 100 if it is unbounded; 1
+// and 1 without a quantifier. left, right: the numbers of its parts' nodes. height: above that of
+// each part. places: how many places it unrolls to, counted up to 257; of an alternation without
+// its fork.
 #[derive(Clone, Copy)]
 pub struct Node {
     pub sort: Sort,
-    pub form: usize,
+    pub form: Form,
     pub lazy: bool,
     pub low: usize,
     pub high: usize,
@@ -42,6 +55,7 @@ fn byte_of(w: u16) -> u8
 }
 
 // The sort that a word says.
+#[tactic(auto, unfolding(crate::specs::Nodes::sort_of))]
 fn sort_of(w: u16) -> Sort
     ensures { result ≡ sort_of w }
 {
@@ -57,14 +71,15 @@ fn sort_of(w: u16) -> Sort
 }
 
 // The sort of the node at i, and its places, without the other words.
+#[tactic(auto, unfolding(crate::specs::Nodes::node_at))]
 pub fn sort_at(room: &[u16], i: usize) -> Sort
     requires { 8 * i + 8 ≤ length room.now }
     ensures { result ≡ (node_at room.now i).sort }
 {
-    let word = room[i * 8];
-    sort_of(word)
+    sort_of(room[i * 8])
 }
 
+#[tactic(auto, unfolding(crate::specs::Nodes::node_at))]
 pub fn places_at(room: &[u16], i: usize) -> usize
     requires { 8 * i + 8 ≤ length room.now }
     ensures { result ≡ (node_at room.now i).places }
@@ -80,11 +95,28 @@ fn number_at(room: &[u16], i: usize, k: usize) -> usize
     wide16(room[i * 8 + k])
 }
 
-fn form_at(room: &[u16], i: usize) -> usize
-    requires { 8 * i + 8 ≤ length room.now }
-    ensures { result ≡ get_or room.now (i * 8 + 1) 0 / 2 }
+// The form that half a word says.
+#[tactic(auto, unfolding(crate::specs::Nodes::form_of))]
+fn form_of(w: u16) -> Form
+    ensures { result ≡ form_of w }
 {
-    wide16(room[i * 8 + 1] / 2)
+    match w {
+        0 => Form::Bare,
+        1 => Form::Star,
+        2 => Form::Plus,
+        3 => Form::Opt,
+        4 => Form::Exactly,
+        5 => Form::AtLeast,
+        6 => Form::AtMost,
+        _ => Form::Between,
+    }
+}
+
+fn form_at(room: &[u16], i: usize) -> Form
+    requires { 8 * i + 8 ≤ length room.now }
+    ensures { result ≡ form_of (get_or room.now (i * 8 + 1) 0 / 2) }
+{
+    form_of(room[i * 8 + 1] / 2)
 }
 
 fn lazy_at(room: &[u16], i: usize) -> bool
@@ -95,13 +127,13 @@ fn lazy_at(room: &[u16], i: usize) -> bool
 }
 
 // The node at i.
+#[tactic(auto, unfolding(crate::specs::Nodes::node_at))]
 pub fn node_at(room: &[u16], i: usize) -> Node
     requires { 8 * i + 8 ≤ length room.now }
     ensures { result ≡ node_at room.now i }
 {
-    let sort = sort_at(room, i);
     Node {
-        sort,
+        sort: sort_at(room, i),
         form: form_at(room, i),
         lazy: lazy_at(room, i),
         low: number_at(room, i, 2),

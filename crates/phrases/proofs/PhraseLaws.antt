@@ -8,7 +8,7 @@ use lib.ListN.{drop}
 use Rattle.rules.specs.Places.{round_places}
 use Rattle.rules.specs.Language.{Form, star, plus, opt, exactly, at_least, at_most, between, lower, upper, InBounds}
 use Rattle.rules.specs.Reader.{Marked, unmarked, broken, marked, quantifier}
-use Rattle.marks.specs.Shows.{code_of, highest, high_of, Shows}
+use Rattle.marks.specs.Shows.{highest, high_of, Shows}
 use Rattle.marks.specs.declared.Mark.{Mark}
 use Rattle.text_bytes.specs.declared.Broken.{Broken}
 use Rattle.std.specs.Prelude.{Ok, Err, Some, None}
@@ -23,15 +23,15 @@ use Rattle.primaries.specs.declared.Head.{Head}
 
 -- ---- finish
 
-form_small : (f : Form) → InBounds f → (code_of f ≤ 7) × (lower f ≤ 99) × (high_of f ≤ 100)
-unfolding code_of lower high_of highest upper InBounds
-form_small star i = (omega arith, omega arith, omega arith)
-form_small plus i = (omega arith, omega arith, omega arith)
-form_small opt i = (omega arith, omega arith, omega arith)
-form_small (exactly n) i = (omega arith, omega (arith, i.1), omega (arith, i.1))
-form_small (at_least n) i = (omega arith, omega (arith, i), omega arith)
-form_small (at_most m) i = (omega arith, omega arith, omega (arith, i.1))
-form_small (between n m) i = (omega arith, omega (arith, i.1, i.2), omega (arith, i.2))
+form_small : (f : Form) → InBounds f → (lower f ≤ 99) × (high_of f ≤ 100)
+unfolding lower high_of highest upper InBounds
+form_small star i = (omega arith, omega arith)
+form_small plus i = (omega arith, omega arith)
+form_small opt i = (omega arith, omega arith)
+form_small (exactly n) i = (omega (arith, i.1), omega (arith, i.1))
+form_small (at_least n) i = (omega (arith, i), omega arith)
+form_small (at_most m) i = (omega arith, omega (arith, i.1))
+form_small (between n m) i = (omega (arith, i.1, i.2), omega (arith, i.2))
 
 -- a node with a quantifier that is read
 abbrev pub marking : Node → Mark → ℕ → Node
@@ -106,9 +106,8 @@ module _ (s m : List ℕ) (p : Head) where
               fits = w.holding.fits;
               few = w.holding.few;
               small = record {
-                form = omega (arith, i.code, g.0);
-                low = omega (arith, i.from, g.1);
-                high = omega (arith, i.upto, g.2);
+                low = omega (arith, i.from, g.0);
+                high = omega (arith, i.upto, g.1);
                 left = k.left;
                 right = k.right;
                 height = k.height;

@@ -3,9 +3,9 @@
 #![tactic(auto)]
 
 ghost use Rattle.std.specs.Prelude.{◌≡◌, ◌+◌, ◌*◌, ◌≤◌, ◌<◌, length};
-ghost use Rattle.nodes.specs.Nodes.{put_node, word_of, bit_of_bool, Small};
+ghost use Rattle.nodes.specs.Nodes.{put_node, word_of, number_of, bit_of_bool, Small};
 
-use nodes::{Node, Sort};
+use nodes::{Form, Node, Sort};
 
 fn word_of(s: Sort) -> u16
     ensures { result ≡ word_of s }
@@ -20,28 +20,36 @@ fn word_of(s: Sort) -> u16
     }
 }
 
-fn bit_of(b: bool) -> usize
-    ensures { (result ≡ bit_of_bool b) × (result ≤ 1) }
+fn number_of(form: Form) -> u16
+    ensures { (result ≡ number_of form) × (result ≤ 7) }
 {
-    if b { 1 } else { 0 }
+    match form {
+        Form::Bare => 0,
+        Form::Star => 1,
+        Form::Plus => 2,
+        Form::Opt => 3,
+        Form::Exactly => 4,
+        Form::AtLeast => 5,
+        Form::AtMost => 6,
+        Form::Between => 7,
+    }
 }
 
 // A form and its reluctant mark in one word.
-fn form_word(form: usize, lazy: bool) -> u16
-    requires { form < 32768 }
-    ensures { result ≡ form * 2 + bit_of_bool lazy }
+fn form_word(form: Form, lazy: bool) -> u16
+    ensures { result ≡ number_of form * 2 + bit_of_bool lazy }
 {
-    (form * 2 + bit_of(lazy)) as u16
+    number_of(form) * 2 + u16::from(lazy)
 }
 
 // Puts a node at i.
+#[tactic(auto, unfolding(nodes::specs::Nodes::put_node))]
 pub fn put_node(room: &mut [u16], i: usize, n: Node)
     requires { (8 * i + 8 ≤ length room.old) × Small n }
     ensures { room.new ≡ put_node room.old i n }
 {
     let at = i * 8;
-    let sort = n.sort;
-    room[at] = word_of(sort);
+    room[at] = word_of(n.sort);
     room[at + 1] = form_word(n.form, n.lazy);
     room[at + 2] = n.low as u16;
     room[at + 3] = n.high as u16;

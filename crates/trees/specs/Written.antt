@@ -7,11 +7,12 @@ use Rattle.marks.specs.Shows.{code_of, high_of}
 use Rattle.nodes.specs.Nodes.{put_node}
 use Rattle.nodes.specs.declared.Sort.{Sort}
 use Rattle.nodes.specs.declared.Sort.TheVariants.{Letter, Anchor, Empty, Sequence, Alternation, Group}
+use Rattle.nodes.specs.declared.Form.TheVariants.{Bare}
 use Rattle.nodes.specs.declared.Node.{Node}
 
 -- a node with no quantifier
 abbrev pub plain_node : Sort → ℕ → ℕ → ℕ → ℕ → Node
-plain_node k l r h n = record { sort = k; form = 0; lazy = false; low = 1; high = 1; left = l; right = r; height = h; places = n }
+plain_node k l r h n = record { sort = k; form = Bare; lazy = false; low = 1; high = 1; left = l; right = r; height = h; places = n }
 
 -- a node with a quantifier
 abbrev pub with_mark : Node → Form → Bool → Node

@@ -8,7 +8,7 @@ ghost use Rattle.rules.specs.Language.{Rank, Tree};
 ghost use Rattle.trees.specs.Held.{Top, At};
 ghost use Rattle.trees.specs.Written.{node_count, plain_node, InOrder, rounds_of};
 
-use nodes::{Node, Sort, node_at};
+use nodes::{Form, Node, Sort, node_at};
 
 // A node without a quantifier.
 pub fn plain_node(sort: Sort, left: usize, right: usize, height: usize, places: usize) -> Node
@@ -16,7 +16,7 @@ pub fn plain_node(sort: Sort, left: usize, right: usize, height: usize, places: 
 {
     Node {
         sort,
-        form: 0,
+        form: Form::Bare,
         lazy: false,
         low: 1,
         high: 1,

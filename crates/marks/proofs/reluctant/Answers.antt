@@ -1,6 +1,5 @@
 -- `marks::reluctant` meets its contract. Laws: MarkLaws.
 use Rattle.marks.proofs.MarkLaws.{reluctant-to, reluctant-is}
-use borrow.Author.Rules.{rules}
 use Rattle.marks.proofs.reluctant.Goals as goal
 
 pub skip-to-requires : goal.skip-to-requires
