@@ -55,7 +55,7 @@ fn kept(call: Call, s: Sweep) -> Feed
         allowance: feed.allowance,
         present: call.present,
         begun: 1,
-        answer: s.end,
+        answer: s.end.answer(),
         row: s.row,
         matches: s.matches,
         labels: s.labels,

@@ -1,3 +1,4 @@
+pub mod Ends
 pub mod Visiting
 pub mod Sofar
 pub mod Clearing

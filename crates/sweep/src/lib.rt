@@ -1,17 +1,20 @@
 // The whole search by the counted walk: all starts, each with one attempt; the matches written as
 // they are found; and the buffers left as the report says. A search that has waited for a row goes
 // on from the start of its attempt (`go_on`): the pairs that have failed are in the notes, so the
-// attempt comes straight to the pair that waited, and enters none but those that were open.
+// attempt comes straight to the pair that waited, and enters none but those that were open. Table,
+// rows and lent buffers stay parameters: as fields of one struct each clause would have to name what
+// they hold before and behind a call through it, which is no plainer.
 #![tactic(auto)]
 
 ghost use Rattle.std.specs.Prelude.{◌≡◌, ◌≤◌, length};
 ghost use Rattle.rules.specs.Basics.{wrote};
 ghost use Rattle.rules.specs.Report.{zeros};
+ghost use Rattle.matches.specs.declared.End.TheVariants.{OutOfRows};
 ghost use Rattle.matches.specs.Asked.{asked_of};
 ghost use Rattle.matches.specs.Found.{Told, Visits, Visited, Searches};
 ghost use Rattle.sweep.specs.Searched.{came_to, Tells, Sound, Searched, Measures, WentOn, Answered};
 
-use matches::{DONE, OUT_OF_ROWS, OUT_OF_STEPS, Sweep, Task, write_match};
+use matches::{End, Sweep, Task, write_match};
 use pairs::{ENTER, WAITS, Walk};
 use walk::attempt;
 
@@ -33,7 +36,7 @@ fn tell(
 {
     if w.status == ENTER {
         return Sweep {
-            end: OUT_OF_STEPS,
+            end: End::OutOfSteps,
             steps: w.steps,
             opened: 0,
             ..i
@@ -41,7 +44,7 @@ fn tell(
     }
     if w.status == WAITS {
         return Sweep {
-            end: OUT_OF_ROWS,
+            end: End::OutOfRows,
             steps: w.steps,
             opened: w.top + 1,
             ..i
@@ -49,7 +52,7 @@ fn tell(
     }
     if w.top == 0 {
         return Sweep {
-            end: DONE,
+            end: End::Done,
             row: i.row + 1,
             steps: w.steps,
             opened: 0,
@@ -79,10 +82,10 @@ fn visit(
 
 // The search waits for a row to start at.
 fn waiting(i: Sweep) -> Sweep
-    ensures { result ≡ record { end = 23; row = i.row; matches = i.matches; labels = i.labels; steps = i.steps; opened = 0 } }
+    ensures { result ≡ record { end = OutOfRows; row = i.row; matches = i.matches; labels = i.labels; steps = i.steps; opened = 0 } }
 {
     Sweep {
-        end: OUT_OF_ROWS,
+        end: End::OutOfRows,
         opened: 0,
         ..i
     }
@@ -107,7 +110,7 @@ fn starts(
     let mut i = from;
     while i.row < n {
         i = visit(table, rows, notes, trail, numbers, labels, task, i);
-        if i.end != DONE {
+        if i.end != End::Done {
             return i;
         }
     }
@@ -132,7 +135,7 @@ pub fn go_on(
     ensures { WentOn table.now rows.now task notes.old trail.old numbers.old labels.old from notes.new trail.new numbers.new labels.new result }
 {
     let r = starts(table, rows, notes, trail, numbers, labels, task, from);
-    if r.end == OUT_OF_ROWS {
+    if r.end == End::OutOfRows {
         return r;
     }
     trail[..task.pairs].fill(0);
@@ -154,7 +157,7 @@ pub fn search(
 {
     notes[..task.pairs.div_ceil(8)].fill(0);
     let first = Sweep {
-        end: DONE,
+        end: End::Done,
         row: 0,
         matches: 0,
         labels: 0,
