@@ -3,7 +3,6 @@
 -- so are the pairs.
 use Rattle.std.specs.Prelude.{◌≡◌, List, ℕ, ◌*◌, ℤ}
 use Rattle.rules.specs.Walk.{pairs}
-use Rattle.rules.specs.Answers as A
 use Rattle.rules.specs.Answers.{room_of}
 use Rattle.mireladle_c.specs.declared.Room.{Room}
 

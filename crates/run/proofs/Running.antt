@@ -13,7 +13,6 @@ use lib.Seq.{take_all}
 use Rattle.std.specs.Prelude.{Ok, Err}
 use Rattle.refusals.specs.declared.Refusal.{Refusal}
 use Rattle.refusals.proofs.Numbers.{some_answer}
-use Rattle.rules.specs.Query.{parts}
 use Rattle.rules.specs.Answers.{task_of, walked, Buffers, Memory, refusal, search_of}
 use Rattle.rules.specs.Program.{refused_text, too_large, search_text, printed_for, printed}
 use Rattle.laws.proofs.Lists.{length-tabulate}

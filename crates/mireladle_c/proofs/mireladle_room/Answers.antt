@@ -1,6 +1,5 @@
 -- `mireladle_c::mireladle_room` meets its contract by the laws of Small.
 use native.Mathlib.Omega.{arith}
-use borrow.Author.Rules.{rules}
 use Rattle.mireladle_c.proofs.Small.{pairs_fit}
 use Rattle.mireladle_c.proofs.mireladle_room.Goals as goal
 
