@@ -1,6 +1,8 @@
 // The rules for the fields of each kind of record (document 01, "Rows and query records"), which
 // answer 3 is about; those of DEFINEs stand in the crate define_fields. Every function equals the
 // definition of its name.
+// Each asks that the body lies inside the query: a record alone, without the query's bytes, cannot
+// say it in its type.
 #![tactic(auto)]
 
 ghost use Rattle.std.specs.Prelude.{◌≡◌, ◌+◌, ◌≤◌, length};

@@ -9,7 +9,7 @@ ghost use Rattle.records.specs.Kinds.{number_of, Unknown};
 
 use numbers::le16_at;
 
-// The number of the kind of DEFINE that is all of some comparisons.
+// The number of the kind of DEFINE that is all of some comparisons, for who has the number alone.
 pub const ALL_OF: usize = 3;
 
 // The kinds of records. A DEFINE is all of some comparisons, or entries in postfix.
