@@ -1,4 +1,5 @@
-// A pattern's node, a struct by value, and nodes kept as words in a lent slice, eight to a node:
+// A pattern's node, a struct by value, and nodes kept as words in a lent slice, eight to a node (no
+// heap and fixed memory are rules of the project, so a tree is no Box and a room no Vec):
 // here a node is read from its words, and crates/put_nodes puts one there. What is put is read
 // back, and other words are unchanged (proofs/Put).
 #![tactic(auto)]
@@ -31,10 +32,10 @@ pub enum Form {
     Between,
 }
 
-// form: its quantifier. lazy: it is reluctant. low, high: its bounds, high 100 if it is unbounded; 1
-// and 1 without a quantifier. left, right: the numbers of its parts' nodes. height: above that of
+// form: its quantifier. lazy: it is reluctant. low, high: its bounds, high 100 if it is unbounded,
+// 1 and 1 without a quantifier. left, right: the numbers of its parts' nodes. height: above that of
 // each part. places: how many places it unrolls to, counted up to 257; of an alternation without
-// its fork.
+// its fork. An Option for high, or a struct of these, is no plainer: `n.high == 100`, `n.low == 0`.
 #[derive(Clone, Copy)]
 pub struct Node {
     pub sort: Sort,

@@ -92,6 +92,7 @@ pub fn chain(
 {
     let mut to = end;
     let mut all = last;
+    // no range to walk by a `for`: a turn goes back over all nodes of a part
     while first < to {
         let top = to - 1;
         let n = node_at(room, top);

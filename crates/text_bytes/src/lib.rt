@@ -34,6 +34,7 @@ pub fn skip(text: &[u8], at: usize) -> usize
     requires { at ≤ length text.now }
     ensures { (drop result text.now ≡ skipped (drop at text.now)) × (at ≤ result) × (result ≤ length text.now) }
 {
+    // no plainer: `text[at..].iter().position(|b| *b != b' ').map_or(text.len(), |n| at + n)`
     let mut to = at;
     while peek(text, to) == b' ' {
         to += 1;
