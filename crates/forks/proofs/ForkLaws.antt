@@ -4,34 +4,29 @@ use mathlib.Core.Bool.{Bool, true, false, ◌||◌}
 use mathlib.Core.List.{List, [], ◌∷◌}
 use Prim.Native.Nat.{ℕ, ◌+◌, ◌*◌, ◌-◌, ◌≤◌, ◌<◌, min}
 use native.Mathlib.Omega.{arith}
-use types.Run.{OneOf, miss}
-use denote.Enum.Declared.{tag_of}
 use mir.Val.{Fits as Fits-in}
 use mir.Syntax.{w64}
-use lib.Dec.{eqb}
 use lib.ListN.{length, get_or}
-use borrow.Author.Tests.{eq-eqb, ne_eqb, eqb-true, eqb-false, lt-ltb, le-ltb}
+use borrow.Author.Tests.{eq-eqb, lt-ltb, le-ltb}
 use Rattle.rules.specs.Basics.{has}
 use Rattle.rules.specs.Language.{pattern, branch, Tree, one, more, last, next}
 use Rattle.rules.specs.Places.{Unrolled, Branches, u_nil, u_cons, unrolled, Place, p_fork, p_end, size, sizes, place_count}
 use Rattle.laws.proofs.Counting.{unrolled-size}
 use Rattle.rules.specs.Working.{distinct, fresh, keep_new}
 use Rattle.nodes.specs.Nodes.{node_at}
-use Rattle.nodes.specs.declared.Sort.{Sort}
-use Rattle.nodes.specs.declared.Sort.TheVariants.{Sequence, Alternation}
+use Rattle.nodes.specs.declared.Sort.TheVariants.{Alternation}
 use Rattle.nodes.specs.declared.Node.{Node}
-use Rattle.nodes.specs.contracts.Sort.{the_type}
 use Rattle.trees.specs.Held.{Top, At}
 use Rattle.trees.proofs.ByNode.{as_any, as_alt, at_in, alt_left, alt_right, top_places}
 use Rattle.table.specs.Table.{span}
-use Rattle.place_words.specs.Words.{put_ways, put_words, put_place, put_fork, ForkNeeds, way_count, FitsOne, PutOne, Fitting, Emitted, Wording, WayPut, WayNeeds, place_words}
+use Rattle.place_words.specs.Words.{put_ways, put_words, put_place, put_fork, ForkNeeds, way_count, FitsOne, PutOne, Fitting, Emitted, WayPut, WayNeeds, place_words}
 use Rattle.place_codes.specs.Codes.{later_word}
 use Rattle.place_codes.specs.Planes.{slot, start_no}
 use Rattle.place_codes.specs.declared.Plane.{Plane}
 use Rattle.place_codes.specs.declared.Behind.{Behind}
 use Rattle.forks.specs.PlaneCode.{used, starts_in}
 use Rattle.forks.specs.Emitting.{new_starts, Starting, Started, two_places, TwoWays, choice, Choosing, choice_places, Parting, fork_places, Forking}
-use Rattle.place_words.proofs.TableLaws.{ways-length, ways-first, later-read, place-length, fit-one, emitted_one}
+use Rattle.place_words.proofs.TableLaws.{ways-length, ways-first, later-read, fit-one, emitted_one}
 use Rattle.place_words.proofs.WayLaws.{AfterWay, after-way}
 use Rattle.place_codes.proofs.CodeLaws.{entry-end}
 
@@ -146,60 +141,9 @@ module _ (T : List ℕ) (q w x y : ℕ) (h : TwoWays T q w x y) where
       pub two-done : (T3 : List ℕ) (r : ℕ) → (r ≡ to) × (T3 ≡ put_fork T2 q w to) → PutOne T T3 q w r (two_places x y)
       two-done T3 r e = fork-put T T2 q w (distinct (x ∷ y ∷ [])) to h.fits (distinct-some (x ∷ y ∷ []) (omega arith)) two-put two-count T3 r e
 
--- ---- a copy and leaving
-
--- two ways are as many in either order
-either_order : (x y : ℕ) → length (distinct (x ∷ y ∷ [])) ≡ length (distinct (y ∷ x ∷ []))
-unfolding fresh has
-either_order x y = go (eqb x y) refl
-  where
-    go : (t : Bool) → eqb x y ≡ t → length (distinct (x ∷ y ∷ [])) ≡ length (distinct (y ∷ x ∷ []))
-    go true e = rw (eqb-true x y e)
-    go false e = rw (e, ne_eqb y x (λ z. eqb-false x y e (sym z)))
-
-module _ (T : List ℕ) (q w : ℕ) (lazy : Bool) (copy leave : ℕ) where
-  ways-fit : (z : Bool) → FitsOne T q w (choice z copy leave) → w + length (distinct (copy ∷ leave ∷ [])) ≤ length T
-  unfolding way_count
-  ways-fit true f = omega (arith, f.way, either_order leave copy)
-  ways-fit false f = omega (arith, f.way)
-
-  -- the two ways fit, whichever comes first
-  module _ (h : Choosing T q w lazy copy leave) where
-    pub greedy_needs : TwoWays T q w copy leave
-    unfolding way_count
-    greedy_needs =
-        let f = h.fits in
-        record {
-          fits = record { index = f.index; long = f.long; small = f.small; way = omega (arith, ways-fit lazy f) };
-          first = h.copied;
-          second = h.left;
-        }
-
-    pub lazy_needs : TwoWays T q w leave copy
-    unfolding way_count
-    lazy_needs =
-        let f = h.fits in
-        record {
-          fits = record { index = f.index; long = f.long; small = f.small; way = omega (arith, ways-fit lazy f, either_order leave copy) };
-          first = h.left;
-          second = h.copied;
-        }
-
-  pub lazy_done : (T2 : List ℕ) (r : ℕ) → lazy ≡ true → PutOne T T2 q w r (two_places leave copy) → PutOne T T2 q w r (choice lazy copy leave)
-  lazy_done T2 r e d = rw e d
-
-  pub greedy_done : (T2 : List ℕ) (r : ℕ) → lazy ≡ false → PutOne T T2 q w r (two_places copy leave) → PutOne T T2 q w r (choice lazy copy leave)
-  greedy_done T2 r e d = rw e d
-
-pub put_length : (T T2 : List ℕ) (q w r : ℕ) (p : Place) → PutOne T T2 q w r p → length T2 ≡ length T
-put_length T T2 q w r p d = ap length d.is ∙ place-length T q w p
-
 -- ---- a place in a plane, or END where it does not have the plane's flags
 
 module _ (o : Plane) (T : List ℕ) (b w : ℕ) (k : Behind) (p : Place) (f : Fitting o T b w k (used o k p ∷ [])) where
-  pub plane-slot : b ≤ 256
-  plane-slot = omega (arith, f.place)
-
   module _ (q : ℕ) (eq : q ≡ slot o b) where
     used-here : o.flags < k.values → FitsOne T q w p
     unfolding used
@@ -209,14 +153,6 @@ module _ (o : Plane) (T : List ℕ) (b w : ℕ) (k : Behind) (p : Place) (f : Fi
     unfolding used
     used-done l T1 r d = rw (lt-ltb o.flags k.values l) (emitted_one o T b w p T1 r (rw eq at d))
 
-    unused_here : k.values ≤ o.flags → FitsOne T q w p_end
-    unfolding used
-    unused_here l = rw eq (fit-one o T b w p_end k [] (rw (le-ltb o.flags k.values l) at f))
-
-    pub unused_words : k.values ≤ o.flags → Wording T q 30 0 0 0
-    unused_words l =
-        record { long = (unused_here l).long; code_fits = omega arith; first_fits = omega arith; later_fits = omega arith; count_fits = omega arith }
-
     pub unused_done : k.values ≤ o.flags → (T1 : List ℕ) (r : ℕ) → (r ≡ w) × (T1 ≡ put_words T q (place_words 30 0 0 0)) → Emitted o T T1 b w r (used o k p ∷ [])
     unfolding used put_place way_count
     unused_done l T1 r d = let z : PutOne T T1 q w r p_end = record { is = d.1; way = omega (arith, d.0) } in rw (le-ltb o.flags k.values l) (emitted_one o T b w p_end T1 r (rw eq at z))
@@ -224,13 +160,7 @@ module _ (o : Plane) (T : List ℕ) (b w : ℕ) (k : Behind) (p : Place) (f : Fi
 -- ---- the fork between a copy and leaving, in a plane
 
 module _ (o : Plane) (T : List ℕ) (b w : ℕ) (lazy : Bool) (copy : ℕ) (k : Behind) (h : Parting o T b w lazy copy k) where
-  pub part-slot : b ≤ 256
-  part-slot = plane-slot o T b w k (choice lazy copy k.here) h.fits
-
   module _ (q : ℕ) (eq : (q ≡ slot o b) × (q < 4096)) where
-    pub part-words : k.values ≤ o.flags → Wording T q 30 0 0 0
-    part-words = unused_words o T b w k (choice lazy copy k.here) h.fits q eq.0
-
     pub part_none : k.values ≤ o.flags → (T1 : List ℕ) (r : ℕ) → (r ≡ w) × (T1 ≡ put_words T q (place_words 30 0 0 0)) → Emitted o T T1 b w r (choice_places o lazy copy k)
     part_none = unused_done o T b w k (choice lazy copy k.here) h.fits q eq.0
 
@@ -240,18 +170,7 @@ module _ (o : Plane) (T : List ℕ) (b w : ℕ) (lazy : Bool) (copy : ℕ) (k : 
     pub part-done : o.flags < k.values → (T1 : List ℕ) (r : ℕ) → PutOne T T1 q w r (choice lazy copy k.here) → Emitted o T T1 b w r (choice_places o lazy copy k)
     part-done = used-done o T b w k (choice lazy copy k.here) h.fits q eq.0
 
--- ---- sorts that are not these
-
-pub not-sequence : (k : Sort) → OneOf (0 ∷ 1 ∷ 2 ∷ 4 ∷ 5 ∷ []) (tag_of the_type k) → k ≡ Sequence → ⊥
-not-sequence k h e = miss (0 ∷ 1 ∷ 2 ∷ 4 ∷ 5 ∷ []) 3 tt (subst (λ (x : Sort). OneOf (0 ∷ 1 ∷ 2 ∷ 4 ∷ 5 ∷ []) (tag_of the_type x)) e h)
-
-pub not-alternation : (k : Sort) → OneOf (0 ∷ 1 ∷ 2 ∷ 3 ∷ 5 ∷ []) (tag_of the_type k) → k ≡ Alternation → ⊥
-not-alternation k h e = miss (0 ∷ 1 ∷ 2 ∷ 3 ∷ 5 ∷ []) 4 tt (subst (λ (x : Sort). OneOf (0 ∷ 1 ∷ 2 ∷ 3 ∷ 5 ∷ []) (tag_of the_type x)) e h)
-
 -- ---- the ways of an alternation
-
-start-node : (o : Plane) (s : List ℕ) (i : ℕ) (T : List ℕ) (from to b k : ℕ) → Starting o s i T from to b k → 8 * i + 8 ≤ length s
-start-node o s i T from to b k h = at_in s i (record { tree = h.tree; is = h.top })
 
 module _ (o : Plane) (s : List ℕ) (i : ℕ) (n : Node) (en : n ≡ node_at s i) (T : List ℕ) (from to b k : ℕ) where
   start-at_node : Starting o s i T from to b k → At s i
@@ -446,16 +365,7 @@ pub record WaysLeft (o : Plane) (s : List ℕ) (i : ℕ) (T0 : List ℕ) (from t
   pub now : Starting o s j T from to b k
   pub so : (h : Starting o s i T0 from to0 b0 k) (T2 : List ℕ) (r : ℕ) → ((g : Starting o s j T from to b k) → Started o s j T from to b k T2 r g) → Started o s i T0 from to0 b0 k T2 r h
 
-pub ways-start : (o : Plane) (s : List ℕ) (i : ℕ) (T : List ℕ) (from to b k : ℕ) → Starting o s i T from to b k → WaysLeft o s i T from to b k i T to b
-ways-start o s i T from to b k h = record { now = h; so = λ h T2 r f. f h }
-
 module _ (o : Plane) (s : List ℕ) (i : ℕ) (T0 : List ℕ) (from to0 b0 k j : ℕ) (T : List ℕ) (to b : ℕ) (L : WaysLeft o s i T0 from to0 b0 k j T to b) where
-  pub ways-entry : (b ≤ 256) × (k < 4096)
-  ways-entry = (omega (arith, L.now.place), L.now.behind)
-
-  pub ways-in : 8 * j + 8 ≤ length s
-  ways-in = start-node o s j T from to b k L.now
-
   module _ (n : Node) (en : n ≡ node_at s j) where
     -- branches without places
     module _ (e : n.places ≡ 0) where
@@ -510,12 +420,6 @@ module _ (o : Plane) (s : List ℕ) (i : ℕ) (T : List ℕ) (b w : ℕ) (k : Be
   unfolding ways
   starts_all = ap (λ (v : List ℕ). fresh v (starts_in o (unrolled h.tree) (b + 1) k.here)) (span_none T w)
 
-  pub forking_slot : b ≤ 256
-  forking_slot = omega (arith, h.room)
-
-  pub forking_next : Fits-in w64 (b + 1)
-  forking_next = record { fits = omega (arith, h.room) }
-
   pub fork-starting : o.flags < k.values → Starting o s i T w w (b + 1) k.here
   unfolding way_count ways
   fork-starting l =
@@ -532,10 +436,6 @@ module _ (o : Plane) (s : List ℕ) (i : ℕ) (T : List ℕ) (b w : ℕ) (k : Be
       }
 
   module _ (q : ℕ) (eq : (q ≡ slot o b) × (q < 4096)) where
-    pub forking_words : k.values ≤ o.flags → Wording T q 30 0 0 0
-    unfolding ways
-    forking_words = unused_words o T b w k (p_fork ways) h.fits q eq.0
-
     pub forking_none : k.values ≤ o.flags → (T1 : List ℕ) (r : ℕ) → (r ≡ w) × (T1 ≡ put_words T q (place_words 30 0 0 0)) → Emitted o T T1 b w r (fork_places o h.tree b k)
     unfolding ways
     forking_none = unused_done o T b w k (p_fork ways) h.fits q eq.0
@@ -564,7 +464,3 @@ module _ (o : Plane) (s : List ℕ) (i : ℕ) (T : List ℕ) (b w : ℕ) (k : Be
         pub forking_done : (T2 : List ℕ) (r : ℕ) → (r ≡ to) × (T2 ≡ put_fork T1 q w to) → Emitted o T T2 b w r (fork_places o h.tree b k)
         unfolding ways
         forking_done T2 r e = used-done o T b w k (p_fork ways) h.fits q eq.0 l T2 r (fork-put T T1 q w ways to forking_fits ways-some ways-put ways-count T2 r e)
-
-pub started_length : (o : Plane) (s : List ℕ) (i : ℕ) (T : List ℕ) (from to b k : ℕ) (exit : List ℕ) (r : ℕ) (h : Starting o s i T from to b k) → Started o s i T from to b k exit r h
-    → length exit ≡ length T
-started_length o s i T from to b k exit r h d = ap length d.is ∙ ways-length T to _

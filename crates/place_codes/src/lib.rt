@@ -2,6 +2,7 @@
 // and a round ends, the later word of a fork, and how many forks a factor has. With R-3 a place has
 // an entry of the table for each value of its flags; a plane is one value of the flags, for all
 // places. The words themselves are put by crates/place_words.
+// Codes are numbers and no enum: they are words of the flat table that the walk reads.
 #![tactic(auto)]
 
 ghost use Rattle.std.specs.Prelude.{◌≡◌, ◌+◌, ◌<◌, ◌-◌, ◌≤◌, length, get_or, eqb, leb};
@@ -24,6 +25,7 @@ pub struct Plane {
 
 // What is behind a part: how many values the flags of its places have, and the entry at which
 // matching goes on behind it, with the flags of a plane and with all flags set.
+// `Low` stays a clause: the definitions of specs/Planes make a `Behind` of any numbers.
 #[derive(Clone, Copy)]
 pub struct Behind {
     pub values: usize,

@@ -1,6 +1,6 @@
 -- A fork's ways in a table: those that do not yet stand there are put, each once.
-use mathlib.Core.Path.{◌≡◌, refl, sym, ap, ◌∙◌}
-use mathlib.Core.Bool.{Bool, true, false, ◌||◌, or_comm, true≢false}
+use mathlib.Core.Path.{◌≡◌, refl, ap, ◌∙◌}
+use mathlib.Core.Bool.{Bool, true, false, ◌||◌, or_comm}
 use mathlib.Core.List.{List, [], ◌∷◌, ◌++◌}
 use Prim.Native.Nat.{ℕ, zero, suc, ◌+◌, ◌-◌, ◌≤◌, ◌<◌}
 use native.Mathlib.Omega.{arith}
@@ -32,16 +32,6 @@ has_any y [] = refl
 has_any y (k ∷ ks) = ap (λ (b : Bool). eqb k y || b) (has_any y ks)
 
 -- ---- a way that is put
-
-module _ (T : List ℕ) (from to y : ℕ) (d : Bool) (ed : d ≡ has y (span T from (to - from))) where
-  pub way_old : d ≡ true → WayPut T T from to y to
-  way_old o = record { old = λ h. (refl, refl); new = λ h. absurd (true≢false (sym o ∙ ed ∙ h)) }
-
-  pub way_new : d ≡ false → WayPut T (set T to y) from to y (to + 1)
-  way_new o = record { old = λ h. absurd (true≢false (sym h ∙ sym ed ∙ o)); new = λ h. (refl, refl) }
-
-  pub way_fits : WayNeeds T from to y → d ≡ false → to < length T
-  way_fits n o = n.fits (sym ed ∙ o)
 
 -- what was seen matters by its members only
 fresh-cong : (s t ys : List ℕ) → ((z : ℕ) → has z s ≡ has z t) → fresh s ys ≡ fresh t ys

@@ -26,6 +26,7 @@ fn put_words(table: &mut [u16], q: usize, code: usize, first: usize, later: usiz
 
 // Place b without ways: a letter, an anchor or END, which leads to place k. Returns the word behind
 // the last way, here w, as all functions do that put places.
+// A struct of table and word is no plainer: each contract would promise its `ghost_name` too.
 pub fn put_place(table: &mut [u16], b: usize, w: usize, code: usize, k: usize) -> usize
     requires { Wording table.old b code k 0 0 }
     ensures { (result ≡ w) × (table.new ≡ put_words table.old b (place_words code k 0 0)) }

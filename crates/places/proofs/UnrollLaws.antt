@@ -162,18 +162,6 @@ module _ (s : List ℕ) (top P F : ℕ) (T0 : List ℕ) where
   pub all_fits : Unrolling s top P F T0 → P * F ≤ 2048
   all_fits h = mul-le-mul h.few h.nested
 
-  pub none_filled : Unrolling s top P F T0 → Filled s top P F T0 T0 (4 * (P * F)) 0
-  none_filled h =
-      let z : F - 0 ≡ F = omega arith in
-      record {
-        bound = omega arith;
-        len = refl;
-        low = omega arith;
-        high = rw z (omega arith);
-        kept = λ j l. refl;
-        planes = λ g a l m. absurd (omega arith);
-      }
-
   module _ (T : List ℕ) (way flags : ℕ) (f : Filled s top P F T0 T way flags) (few : F ≤ 8) (more : flags < F) where
     turn : P * (F - flags) ≡ P + P * (F - (flags + 1))
     turn = let z : F - flags ≡ suc (F - (flags + 1)) = omega arith in rw z (omega arith)

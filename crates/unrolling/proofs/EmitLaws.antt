@@ -218,9 +218,6 @@ module _ (o : Plane) (s : List ℕ) (i : ℕ) (n : Node) (en : n ≡ node_at s i
       alt : AltParts h.tree
       alt = alt_parts h.tree h.top h.fits
 
-      pub alt_first : Fits-in w64 (b + 1)
-      alt_first = record { fits = omega (arith, h.fits.place) }
-
       one-long : b + 1 ≡ b + length (fork_places o h.tree b k)
       one-long = omega arith
 
@@ -268,9 +265,6 @@ module _ (o : Plane) (s : List ℕ) (i : ℕ) (n : Node) (en : n ≡ node_at s i
 
     factor-of : (p : Tree pattern) → Top p i s → FactorOf p
     factor-of = as_any s i n en FactorOf (λ F q. record { of = F; is = refl; seen = q }) (λ f b q. absurd (ns q.sort)) (λ b p q. absurd (na q.sort))
-
-    pub emit_node : Emitting o s i T b w k → At s i
-    emit_node h = emit_at h
 
     pub turn_order : Emitting o s i T b w k → n.low ≤ n.high
     turn_order h = let F = factor-of h.tree h.top in F.seen.order.in_order
@@ -321,9 +315,6 @@ pub emit_in : (o : Plane) (s : List ℕ) (i : ℕ) (T : List ℕ) (b w : ℕ) (k
 emit_in o s i T b w k h = at_in s i (record { tree = h.tree; is = h.top })
 
 -- ---- branches
-
-pub branches_in : (o : Plane) (s : List ℕ) (i : ℕ) (T : List ℕ) (b w : ℕ) (k : Behind) → Branching o s i T b w k → 8 * i + 8 ≤ length s
-branches_in o s i T b w k h = at_in s i (record { tree = h.tree; is = h.top })
 
 module _ (o : Plane) (s : List ℕ) (i : ℕ) (n : Node) (en : n ≡ node_at s i) (T : List ℕ) (b w : ℕ) (k : Behind) where
   branching_at : Branching o s i T b w k → At s i
@@ -702,9 +693,6 @@ module _ (o : Plane) (s : List ℕ) (i c : ℕ) (lazy empty : Bool) (n : ℕ) (m
     option_rest h = (option_low _ refl h, h.fits.behind)
 
 -- ---- body
-
-pub body-in : (o : Plane) (s : List ℕ) (i : ℕ) (T : List ℕ) (b w : ℕ) (k : Behind) → Bodying o s i T b w k → 8 * i + 8 ≤ length s
-body-in o s i T b w k h = at_in s i (record { tree = one (last h.of); is = h.top })
 
 -- the one place of a letter or an anchor
 simple-put : (o : Plane) (T T1 : List ℕ) (b w r : ℕ) (k : Behind) (p : Place) (v x : ℕ) → way_count p ≡ 0 → put_place T (slot o b) w p ≡ put_words T (slot o b) (place_words v x 0 0)

@@ -13,14 +13,13 @@ use Rattle.std.specs.Prelude.{Option, Some, None}
 use Rattle.nodes.specs.Nodes.{node_at}
 use Rattle.nodes.specs.declared.Sort.TheVariants.{Sequence, Alternation}
 use Rattle.nodes.specs.declared.Node.{Node}
-use Rattle.trees.specs.Held.{At}
 use Rattle.place_codes.specs.Codes.{turns_behind}
 use Rattle.place_codes.specs.Planes.{Low, start_by, round_by}
 use Rattle.place_codes.specs.declared.Plane.{Plane}
 use Rattle.place_codes.specs.declared.Behind.{Behind}
 use Rattle.place_words.specs.Words.{Emitted}
 use Rattle.forks.specs.Emitting.{choice_places, Parting, fork_places, Forking, tree_places, branch_places, body_places, turn_places, Emitting, Branching, Bodying, Turning, BodySize, BodyFlag}
-use Rattle.unrolling.proofs.EmitLaws.{emit_m, branch_m, round_m, body_m, emit_in, emit_end, emit_none, seq-left_in, seq-mid, seq_start, seq-first, seq-second, seq-done, alt_forking, alt_first, alt_inside, alt_done, emit_node, turn_order, turn_first, turn_done, branches_in, branches_none, branch-left_in, branch-mid, branch-first, branch-second, branch-done, single_first, single_done, first_fits, copy-first, copy-turning, copy_done, copy-fits, copy_start, none_done, star-choose, star-body, star-done, star-round, star-start, option_choose, option_body, option_turning, option_done, option_more, option_start, option_rest}
+use Rattle.unrolling.proofs.EmitLaws.{emit_m, branch_m, round_m, body_m, emit_in, emit_end, emit_none, seq-left_in, seq-mid, seq_start, seq-first, seq-second, seq-done, alt_forking, alt_inside, alt_done, turn_order, turn_first, turn_done, branches_none, branch-left_in, branch-mid, branch-first, branch-second, branch-done, single_first, single_done, first_fits, copy-first, copy-turning, copy_done, copy-fits, copy_start, none_done, star-choose, star-body, star-done, star-round, star-start, option_choose, option_body, option_turning, option_done, option_more, option_start, option_rest}
 
 -- ---- emit
 
@@ -29,9 +28,6 @@ pub record EmitLeft (o : Plane) (s : List ℕ) (i : ℕ) (T0 : List ℕ) (b0 w0 
   pub less : emit_m s j ≤ emit_m s i
   pub so : (h : Emitting o s i T0 b0 w0 k) (T2 : List ℕ) (q : ℕ) → ((g : Emitting o s j T b w k) → Emitted o T T2 b w q (tree_places o g.tree b k))
       → Emitted o T0 T2 b0 w0 q (tree_places o h.tree b0 k)
-
-pub emit_starts : (o : Plane) (s : List ℕ) (i : ℕ) (T : List ℕ) (b w : ℕ) (k : Behind) → Emitting o s i T b w k → EmitLeft o s i T b w k i T b w
-emit_starts o s i T b w k h = record { now = h; less = omega arith; so = λ h T2 q f. f h }
 
 module _ (o : Plane) (s : List ℕ) (i : ℕ) (T0 : List ℕ) (b0 w0 : ℕ) (k : Behind) (j : ℕ) (T : List ℕ) (b w : ℕ) (L : EmitLeft o s i T0 b0 w0 k j T b w) where
   pub left_in : 8 * j + 8 ≤ length s
@@ -50,9 +46,6 @@ module _ (o : Plane) (s : List ℕ) (i : ℕ) (T0 : List ℕ) (b0 w0 : ℕ) (k :
       pub left-forking : Forking o s j T b w k
       left-forking = alt_forking o s j n en T b w k e L.now
 
-      pub left_one : Fits-in w64 (b + 1)
-      left_one = alt_first o s j n en T b w k e L.now
-
       module _ (T1 : List ℕ) (r : ℕ) (d : (g : Forking o s j T b w k) → Emitted o T T1 b w r (fork_places o g.tree b k)) where
         pub left-inside : Branching o s j T1 (b + 1) r k
         left-inside = (alt_inside o s j n en T b w k e L.now T1 r d _ refl).1
@@ -66,9 +59,6 @@ module _ (o : Plane) (s : List ℕ) (i : ℕ) (T0 : List ℕ) (b0 w0 : ℕ) (k :
 
     -- a factor
     module _ (ns : n.sort ≡ Sequence → ⊥) (na : n.sort ≡ Alternation → ⊥) where
-      pub left-node : At s j
-      left-node = emit_node o s j n en T b w k ns na L.now
-
       pub left-order : n.low ≤ n.high
       left-order = turn_order o s j n en T b w k ns na L.now
 
@@ -124,13 +114,7 @@ pub record BranchesLeft (o : Plane) (s : List ℕ) (i : ℕ) (T0 : List ℕ) (b0
   pub so : (h : Branching o s i T0 b0 w0 k) (T2 : List ℕ) (q : ℕ) → ((g : Branching o s j T b w k) → Emitted o T T2 b w q (branch_places o g.tree b k))
       → Emitted o T0 T2 b0 w0 q (branch_places o h.tree b0 k)
 
-pub branches_start : (o : Plane) (s : List ℕ) (i : ℕ) (T : List ℕ) (b w : ℕ) (k : Behind) → Branching o s i T b w k → BranchesLeft o s i T b w k i T b w
-branches_start o s i T b w k h = record { now = h; less = omega arith; so = λ h T2 q f. f h }
-
 module _ (o : Plane) (s : List ℕ) (i : ℕ) (T0 : List ℕ) (b0 w0 : ℕ) (k : Behind) (j : ℕ) (T : List ℕ) (b w : ℕ) (L : BranchesLeft o s i T0 b0 w0 k j T b w) where
-  pub others-in : 8 * j + 8 ≤ length s
-  others-in = branches_in o s j T b w k L.now
-
   module _ (n : Node) (en : n ≡ node_at s j) where
     module _ (e : n.places ≡ 0) (h : Branching o s i T0 b0 w0 k) where
       pub others-none : Emitted o T0 T b0 w0 w (branch_places o h.tree b0 k)
