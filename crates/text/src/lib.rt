@@ -12,8 +12,8 @@ use header::put_header;
 use lines::put_line;
 use put::Out;
 
-// The lines of the matches. A match has as many of the labels left as it has rows; all of them where
-// there are fewer.
+// The lines of the matches. A match has as many of the labels left as it has rows, or all of them
+// where there are fewer.
 fn put_lines(out: &mut Out<'_>, matches: usize, measures: usize, numbers: &[i64], labels: &[u8])
     requires measures_in_bounds { matches * (3 + 2 * measures) ≤ length numbers.now }
     requires labels_in_bounds { out.old.at + (22 * (matches * (3 + 2 * measures)) + length labels.now) ≤ length out.old.buf.now }
