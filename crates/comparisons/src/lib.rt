@@ -17,7 +17,7 @@ use numbers::signed_word;
 use table::word_at;
 
 // The operators 0 to 7 as bits of one number, three for each: whether it is met where a is below b,
-// equal to b, above b.
+// equal to b, above b. Bits and no enum: the operator is a part of a word of the flat table.
 const OPERATORS: usize = 14299990;
 
 fn compare(operator: usize, a: i64, b: i64) -> bool
@@ -64,7 +64,7 @@ pub fn entry(rows: &[i32], index: usize) -> i64
     i64::from(rows[index])
 }
 
-// ---- comparisons
+// ---- comparisons: table, word, rows and `from` stay apart, since the word differs at each call
 
 // The comparison at word `at`, of the row to whose first entry `from` belongs.
 pub fn comparison_met(table: &[u16], at: usize, rows: &[i32], from: u64) -> bool
@@ -89,7 +89,7 @@ pub fn comparison_met(table: &[u16], at: usize, rows: &[i32], from: u64) -> bool
 }
 
 // The number of the first of `count` comparisons from word `at` on that is not met, `count` if all
-// are met.
+// are met. No Option: who asks compares the number with `count`, and judging adds it up.
 pub fn first_unmet(table: &[u16], at: usize, count: usize, rows: &[i32], from: u64) -> usize
     requires { at + count * 5 ≤ length table.now }
     ensures { result ≡ first_unmet table.now rows.now from at count }

@@ -12,7 +12,7 @@ use conditions::{YES, condition_truth};
 use letter_words::{BY_ENTRIES, FIRST, KIND, MORE};
 use table::word_at;
 
-// Whether a letter holds, and how many comparisons were judged.
+// Whether a letter holds, and how many comparisons were judged: both are told of every letter.
 #[derive(Clone, Copy)]
 pub struct Judged {
     pub holds: bool,

@@ -69,8 +69,9 @@ pub fn letter_holds(table: &[u16], rows: &[i32], size: Extent, at: usize, row: u
     requires { (row < size.rows) × LetterAt size.tests at × Letters table.now size.tests rows.now size.columns size.rows }
     ensures { result ≡ (ltb row size.rows && holds (table_of size.columns rows.now) row (condition_in table.now size.columns at)) }
 {
+    let kind = word_at(table, at + KIND);
     let from = far_back(size.columns, row * size.columns);
-    match word_at(table, at + KIND) {
+    match kind {
         COLUMN => {
             if !column_met(table, at, rows, from) {
                 return false;

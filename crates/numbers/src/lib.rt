@@ -8,6 +8,8 @@ ghost use Rattle.std.specs.Prelude.{◌≡◌, ◌+◌, ◌<◌, length};
 ghost use Rattle.std.specs.Int.Signed.{mag};
 ghost use Rattle.rules.specs.Basics.{le16, le32, signed8, signed32};
 
+// Three functions and not one for every width: C's and the table's numbers are of these three, and
+// the bound that each tells besides, which proofs of other crates read, is another number.
 pub fn wide8(x: u8) -> usize
     ensures { (result ≡ x) × (result < 256) }
 {
