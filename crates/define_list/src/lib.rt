@@ -9,7 +9,8 @@ ghost use Rattle.define_list.specs.Defines.{DefineRoom, PutDefine, DefinesRoom, 
 use records::{Read, byte, is_define, record_at};
 
 // The DEFINE whose body starts at this index; answers whether its letter had one before. The first
-// DEFINE of a letter counts.
+// DEFINE of a letter counts. 0 says that a letter has none, and no Option: no body starts at 0, and
+// the lent array, which is cleared for each query, would be twice as long.
 fn put_define(s: &[u8], start: usize, defines: &mut [usize; 26]) -> bool
     requires { DefineRoom s.now start }
     ensures { PutDefine s.now start defines.old defines.new result }
@@ -41,6 +42,7 @@ pub fn put_defines(s: &[u8], from: usize, defines: &mut [usize; 26]) -> Behind
     let mut at = from;
     let mut twice = false;
     let mut letters = 0;
+    // By an index, as in query; what is behind the DEFINEs goes on from it.
     while at < s.len() {
         let Read::Record(record) = record_at(s, at) else {
             break;

@@ -11,8 +11,7 @@ ghost use Rattle.calls.specs.Steps.{before as asked, after as left, as_before};
 ghost use Rattle.feeding.specs.Calls.{Calls};
 
 use calls::{Call, Fed, refuse};
-use lots::{Feed, WAITING};
-use matches::DONE;
+use lots::{DONE, Feed, WAITING};
 use outcome::Outcome;
 use query_calls::call_waiting;
 use refusals::Refusal;

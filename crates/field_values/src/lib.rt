@@ -20,7 +20,7 @@ const COLUMN: usize = 1;
 // The function that counts rows, and so has no column of its own.
 const COUNT: usize = 1;
 
-// Whether a byte is a letter, A to Z.
+// Whether a byte is a letter, A to Z. text_bytes has the same of a `u8`; fields are read as numbers.
 #[tactic(auto, unfolding(rules::specs::Basics::is_letter, rules::specs::Basics::in_range))]
 pub fn is_letter(byte: usize) -> bool
     ensures { result ≡ is_letter byte }

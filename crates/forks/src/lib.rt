@@ -1,7 +1,7 @@
 // The forks of the table of places: that of an alternation, whose ways are where its branches
 // begin, and the fork between a copy of a factor and leaving it, each with the flags of one plane;
 // END where the place does not have these flags. Promise: a fork has each of its ways once, in the
-// order in which they are tried.
+// order in which they are tried. Place and way stay two numbers, as in unrolling.
 #![tactic(auto)]
 
 ghost use Rattle.place_words.specs.Words.{PutOne, Emitted};

@@ -24,7 +24,7 @@ const BAD_ROWS: u64 = 10;
 
 // What the lengths alone say of an input: that it is refused, with the answer's number; that it is
 // too large; or that its query and rows can be judged. The query is then at index 2 and on, up to
-// `rows`, where the rows begin.
+// `rows`, where the rows begin. A number, and no Refusal: it is printed, and nothing else reads it.
 #[derive(Clone, Copy)]
 pub enum Input {
     Refused(u64),
@@ -32,8 +32,8 @@ pub enum Input {
     Go { rows: usize },
 }
 
-// What a query and its row bytes come to: a refusal, with the answer's number; too many pairs; or a
-// search.
+// What a query and its row bytes come to: a refusal, with the answer's number, which is printed; too
+// many pairs; or a search.
 #[derive(Clone, Copy)]
 pub enum Verdict {
     Refused(u64),

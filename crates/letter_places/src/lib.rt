@@ -7,12 +7,11 @@
 ghost use Rattle.std.specs.Prelude.{◌+◌, ◌*◌, ◌≤◌, length};
 ghost use Rattle.letter_places.specs.Pointing.{Points, PointedOne, Pointing};
 
+use letter_words::LETTER_WORDS;
 use table::{LETTERS, WORDS, code_at};
 
-// Which word of a place tells its test, and how many words a test has.
+// Which word of a place tells its test.
 const LATER: usize = 2;
-
-const TEST: usize = 16;
 
 // Place q, if it is a letter's, is told its test; the tests begin at word `tests`.
 fn point_one(table: &mut [u16], q: usize, tests: usize)
@@ -21,7 +20,7 @@ fn point_one(table: &mut [u16], q: usize, tests: usize)
 {
     let c = code_at(table, q);
     if c < LETTERS {
-        table[WORDS * q + LATER] = (tests + c * TEST) as u16;
+        table[WORDS * q + LATER] = (tests + c * LETTER_WORDS) as u16;
     }
 }
 

@@ -17,6 +17,7 @@ use sweep::{go_on, search};
 // What is kept between calls: the largest number of rows and the steps allowed, as they were named;
 // the rows present at the latest call that was not refused; whether there was one; its answer; the
 // start at which it waits, the matches and labels written, the steps, and how many pairs are open.
+// Numbers, a flag and an answer too, as it is the C interface's struct.
 #[repr(C)]
 #[derive(Clone, Copy)]
 pub struct Feed {
@@ -32,7 +33,9 @@ pub struct Feed {
     pub opened: usize,
 }
 
-// The answer while more rows are waited for.
+// The answer behind the end of the rows, and that while more rows are waited for.
+pub const DONE: usize = 0;
+
 pub const WAITING: usize = 23;
 
 // As many steps as a search by lots may have taken: more than any takes.

@@ -85,6 +85,7 @@ pub fn put_measures(s: &[u8], from: usize, measures: &mut [u8; 24]) -> usize
 {
     let mut at = from;
     let mut count = 0;
+    // By an index, as in query.
     while at < s.len() {
         let Read::Record(record) = record_at(s, at) else {
             break;

@@ -41,6 +41,7 @@ pub fn measure_count(query: &[u8]) -> usize
 {
     let mut at = 0;
     let mut count = 0;
+    // By an index, as in query.
     while at < query.len() {
         let Read::Record(record) = record_at(query, at) else {
             break;

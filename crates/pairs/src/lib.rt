@@ -14,8 +14,9 @@ use numbers::wide32;
 use table::count_at;
 
 // Where a walk is: how many pairs are open, and the steps so far; the pair that was tried last, by
-// its place, its row and its row times P; and what is to be done about that pair. All are numbers,
-// as a struct of whole words has no padding to be copied.
+// its place, its row and its row times P; and what is to be done about that pair. All are numbers:
+// a struct of whole words has no padding, which with two bools cost the walk 2 to 4 percent, as it
+// is copied at every turn (docs/PERFORMANCE.md); an enum is a byte, with padding behind it.
 #[repr(C)]
 #[derive(Clone, Copy)]
 pub struct Walk {

@@ -22,7 +22,7 @@ use tests::put_tests;
 
 // A prepared query beside its table: the places in its table, one for each value of their flags, the
 // columns of a row, how many measures it has, the skip mode of its record, and the letter that the
-// skip names, 0 for none.
+// skip names, 0 for none. The skip stays two numbers, as bench_c hands them to C and takes them back.
 #[derive(Clone, Copy)]
 pub struct Prepared {
     pub places: usize,

@@ -54,7 +54,8 @@ fn columns_by(s: &[u8], stage: Stage, columns: usize, start: usize) -> usize
 }
 
 // The lowest of the answers 1, 2 and 3 that applies, or 0. A 1 in the last bytes beats all else,
-// and a late 2 beats an early 3, so 2 and 3 are given only at the end.
+// and a late 2 beats an early 3, so 2 and 3 are given only at the end. The number, as the promise is
+// an equation with the rules' number; room makes a Refusal of it.
 pub fn first_answer(s: &[u8]) -> usize
     ensures { result ≡ first_answer s.now }
 {
@@ -62,6 +63,7 @@ pub fn first_answer(s: &[u8]) -> usize
     let mut stage = Stage::Shape;
     let mut columns = 0;
     let mut fit = true;
+    // By an index, as document 01 has each record read answer Record or Cut.
     while at < s.len() {
         let Read::Record(record) = record_at(s, at) else {
             return 1;

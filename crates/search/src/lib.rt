@@ -4,6 +4,9 @@
 // equation with the definition of documents 01 and 02, and the tender's demands with it
 // (specs/Promise). Nothing is allocated; the table lies on the stack. Weakness: `run` trusts its
 // table, so only a query that `prepare` wrote may be handed to it.
+//
+// The four lent buffers stay four parameters here and below: C lends them apart, and over a struct
+// of `&mut` slices each contract would have to say besides that the slices stay the same ones.
 #![tactic(auto)]
 
 ghost use Rattle.std.specs.Prelude.{◌≡◌, List, ℕ, ◌≤◌, ◌<◌, MatchOption};

@@ -11,18 +11,17 @@ ghost use Rattle.test_letter.specs.Tests.{Asks, TestedAs, refused_test, tested, 
 
 use comparisons::far_back;
 use judging::{Judged, judge_letter};
+use letter_words::LETTER_WORDS;
 use numbers::wide8;
 use prepared::{Prepared, prepare};
 use refusals::Refusal;
 use sizes::rows_of;
 use table_room::tests_at;
 
-// The letters A and Z, and the words of a letter in the table.
+// The letters A and Z.
 const FIRST_LETTER: usize = 65;
 
 const LAST_LETTER: usize = 90;
-
-const LETTER: usize = 16;
 
 // A comparison looks so many rows back at the most.
 const FURTHEST: usize = 64;
@@ -99,7 +98,7 @@ fn test_prepared(
         });
     }
     let from = far_back(columns, nearest(row, present) * columns);
-    let at = tests_at(p.places) + (letter - FIRST_LETTER) * LETTER;
+    let at = tests_at(p.places) + (letter - FIRST_LETTER) * LETTER_WORDS;
     Ok(judge_letter(table, at, rows, from))
 }
 

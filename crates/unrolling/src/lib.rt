@@ -3,6 +3,9 @@
 // it does not have them. Parts of a sequence, branches and rounds are walked over by loops; a pair
 // of parentheses is a call, whose node is lower, so calls nest as deep as parentheses do. Weakness:
 // a factor's body is unrolled once for each of its copies, and all of it once for each plane.
+//
+// The place and the way stay two numbers, and no struct: one that goes through a recursion by value
+// costs a stall (docs/PERFORMANCE.md).
 #![tactic(auto)]
 
 ghost use Rattle.place_words.specs.Words.{Emitted};
