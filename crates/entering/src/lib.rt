@@ -80,10 +80,8 @@ pub fn enter(
         return Walk {
             top: opened,
             steps,
-            place: q,
-            row,
-            base,
             status: FOUND,
+            ..w
         };
     }
     tried(notes, top + 1, steps, first_at(table, q), row, base)

@@ -1,6 +1,9 @@
 // The measures of a query: the type Measure, a lent array of three bytes for each of up to 8, and
 // the same measures as words of a table. A query comes here with no answer 1 to 3. What the array
 // and the table hold afterwards: specs/Measures, `PutMeasures` and `MeasuresTabled`.
+//
+// The array is of bytes, and of no Measure: it is laid out as the words of the table, so that one
+// definition (`measure_in`) reads both, and `put_in_table` copies it as it is.
 #![tactic(auto)]
 
 ghost use Rattle.std.specs.Prelude.{◌≡◌, ◌+◌, ◌*◌, ◌≤◌, ◌<◌, length};

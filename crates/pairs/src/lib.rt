@@ -68,7 +68,8 @@ pub fn row_of(e: usize) -> usize
     e / ROW % ROWS
 }
 
-// The number, in its fork, of the way that its pair tries next; 0 where none is left.
+// The number, in its fork, of the way that its pair tries next; 0 where none is left, and no Option,
+// as it is the high bits of a number of the trail.
 pub fn way_of(e: usize) -> usize
     requires { e < 4294967296 }
     ensures { (result ≡ way_in e) × (result < 256) }
@@ -113,7 +114,8 @@ fn one_unless(is: bool) -> usize
     if is { BACK } else { ENTER }
 }
 
-// The pair is tried: it is to be entered unless it has failed.
+// The pair is tried: it is to be entered unless it has failed. The numbers are those of the Walk
+// that it makes, which stands nowhere before.
 pub fn tried(notes: &[u8], top: usize, steps: usize, place: usize, row: usize, base: usize) -> Walk
     requires { (base + place < most_pairs) × ((base + place) / 8 < length notes.now) }
     ensures { result ≡ try_at notes.now top steps place row base }
@@ -164,12 +166,9 @@ pub fn fails(notes: &mut [u8], w: Walk, steps: usize) -> Walk
 {
     mark(notes, w.base + w.place);
     Walk {
-        top: w.top,
         steps,
-        place: w.place,
-        row: w.row,
-        base: w.base,
         status: BACK,
+        ..w
     }
 }
 
@@ -181,12 +180,9 @@ pub fn absent(notes: &mut [u8], w: Walk, steps: usize, more: bool) -> Walk
 {
     if more {
         return Walk {
-            top: w.top,
             steps,
-            place: w.place,
-            row: w.row,
-            base: w.base,
             status: WAITS,
+            ..w
         };
     }
     fails(notes, w, steps)

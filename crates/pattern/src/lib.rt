@@ -1,6 +1,9 @@
 // A pattern's text read into a tree: the four readers of the pattern language, in a cycle. The
 // tree's nodes go into a lent room, each behind its parts; `read_text` leaves there the nodes of
 // the tree that the text has, or tells at which byte the text is wrong.
+//
+// Text, index, room and count stay four parameters: each reader goes on at another index with
+// another count, and the text and the room are lent.
 #![tactic(auto)]
 
 ghost use Rattle.rules.specs.Language.{Rank};

@@ -64,34 +64,32 @@ fn back(table: &[u16], notes: &mut [u8], trail: &mut [u32], size: Extent, w: Wal
         if !failed(notes, base + q) {
             put_way(trail, at, e, k);
             return Walk {
-                top: w.top,
-                steps: w.steps,
                 place: q,
                 row,
                 base,
                 status: ENTER,
+                ..w
             };
         }
         if 0 < k {
             put_way(trail, at, e, k);
             return Walk {
-                top: w.top,
-                steps: w.steps,
                 place: q,
                 row,
                 base,
                 status: BACK,
+                ..w
             };
         }
     }
     mark(notes, base + place);
     Walk {
         top: at,
-        steps: w.steps,
         place,
         row,
         base,
         status: BACK,
+        ..w
     }
 }
 

@@ -1,4 +1,5 @@
--- `judge::judge` meets its contract. Laws: Laws.
+-- `judge::judge` meets its contract. Laws: Laws. What is told of the reader's Ok stands at each goal,
+-- since each has facts of a type of its own.
 use Rattle.judge.proofs.Laws.{judge_deep, judge_stopped, some-node, top_at, sum_fits, more-fits, judge_loop, judge_many, judge_good}
 use Rattle.std.proofs.lemmas.Result.{err_from_is_err_and}
 use borrow.Author.Rules.{rules}
