@@ -45,7 +45,7 @@ extern "C" {
 #define MIRELADLE_MAX_OFFSET 64       /* rows that PREV or NEXT looks away */
 
 /* Bytes of stack that a call needs, 64 KiB. Measured, not proved: of some 60,000 queries the worst
- * took 62,384 in lots and 61,536 in one search (8 nested groups with parts); A+ B takes 51,040.
+ * took 51,072 in lots and 50,624 in one search (8 nested groups with parts); A+ B takes 42,432.
  * Room for the largest table is set aside in every call. The number of rows makes no difference. */
 #define MIRELADLE_STACK 65536
 

@@ -7,7 +7,7 @@
 
 /// Bytes of stack that a call of [`search()`], or of any other function here, needs, 64 KiB; the C
 /// header's `MIRELADLE_STACK`. It is measured and not proved: the worst query that was found took
-/// 61,536, one in lots 62,384, the desk 51,152, and the rest is reserve.
+/// 50,624, one in lots 51,072, the desk 42,528, and the rest is reserve.
 ///
 /// Threads of the standard library have 2 MiB. One that is given less by
 /// [`stack_size`](std::thread::Builder::stack_size) needs at least 96 KiB, since the thread and this
