@@ -2,15 +2,16 @@
 use mathlib.Core.Path.{◌≡◌, refl, sym, ap, ◌∙◌}
 use mathlib.Core.Bool.{Bool, true, false}
 use mathlib.Core.List.{List, [], ◌∷◌, ◌++◌}
-use Prim.Native.Nat.{ℕ, suc, ◌+◌, ◌*◌, ◌/◌, ◌%◌, ◌<◌, ◌≤◌}
+use Prim.Native.Nat.{ℕ, suc, ◌+◌, ◌-◌, ◌*◌, ◌/◌, ◌%◌, ◌<◌, ◌≤◌}
 use native.Mathlib.Omega.{arith}
 use lib.Dec.{eqb}
-use borrow.Author.Tests.{eq-eqb, ne_eqb}
+use borrow.Author.Tests.{eq-eqb, ne_eqb, eqb-true, eqb-false}
 use lib.ListN.{length, get_or, set, take, drop, length-append, length-set, get_or-append}
 use lib.Seq.{sets-eq, length-take-le, get_or-append-add, get_or-set_other}
+use Rattle.rules.specs.Basics.{pick}
 use Rattle.nodes.specs.Nodes.{node_at, put_node, sort_of, word_of, form_of, number_of, bit_of_bool}
 use Rattle.nodes.specs.declared.Form.{Form}
-use Rattle.nodes.specs.declared.Form.TheVariants.{Bare, Star, Plus, Opt, Exactly, AtLeast, AtMost, Between}
+use Rattle.nodes.specs.declared.Form.TheVariants.{Bare, Star, Plus, Opt, Exactly, AtLeast, AtMost, Between, Other}
 use Rattle.nodes.specs.declared.Sort.{Sort}
 use Rattle.nodes.specs.declared.Sort.TheVariants.{Letter, Anchor, Empty, Sequence, Alternation, Group}
 use Rattle.nodes.specs.declared.Node.{Node}
@@ -80,6 +81,36 @@ form-number Exactly = refl
 form-number AtLeast = refl
 form-number AtMost = refl
 form-number Between = refl
+form-number (Other k) =
+    simp (ne 0 (omega arith), ne 1 (omega arith), ne 2 (omega arith), ne 3 (omega arith), ne 4 (omega arith), ne 5 (omega arith), ne 6 (omega arith), ne 7 (omega arith))
+    (ap Other (let e : 8 + k - 8 ≡ k = omega arith in e))
+  where
+    ne : (j : ℕ) → j < 8 → eqb (8 + k) j ≡ false
+    ne j h = ne_eqb (8 + k) j (λ e. omega arith)
+
+number-pick : (w j : ℕ) (a b : Form) → number_of a ≡ j → ((w ≡ j → ⊥) → number_of b ≡ w) → number_of (pick (eqb w j) a b) ≡ w
+number-pick w j a b e f = go (eqb w j) refl
+  where
+    go : (z : Bool) → eqb w j ≡ z → number_of (pick z a b) ≡ w
+    go true q = e ∙ sym (eqb-true w j q)
+    go false q = f (eqb-false w j q)
+
+number-form : (w : ℕ) → number_of (form_of w) ≡ w
+unfolding form_of
+number-form w =
+    number-pick w 0 _ _ refl λ a.
+    number-pick w 1 _ _ refl λ b.
+    number-pick w 2 _ _ refl λ c.
+    number-pick w 3 _ _ refl λ d.
+    number-pick w 4 _ _ refl λ e.
+    number-pick w 5 _ _ refl λ f.
+    number-pick w 6 _ _ refl λ g.
+    number-pick w 7 _ _ refl λ h. omega arith
+
+-- a form that is read tells the number that its word has
+pub form-told : (s : List ℕ) (i : ℕ) → number_of (node_at s i).form ≡ get_or s (i * 8 + 1) 0 / 2
+unfolding node_at
+form-told s i = number-form (get_or s (i * 8 + 1) 0 / 2)
 
 bit-back : (f : ℕ) (b : Bool) → eqb ((f * 2 + bit_of_bool b) % 2) 1 ≡ b
 bit-back f true = eq-eqb ((f * 2 + 1) % 2) 1 (omega arith)

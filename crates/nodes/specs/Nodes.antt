@@ -1,11 +1,11 @@
 -- Nodes as words, eight to a node: the sort with its byte, the form with the reluctant mark, the
 -- bounds, the parts, the height, the places.
-use Rattle.std.specs.Prelude.{Bool, true, false, List, ℕ, ◌+◌, ◌*◌, ◌/◌, ◌%◌, ◌<◌, eqb, get_or, set}
+use Rattle.std.specs.Prelude.{Bool, true, false, List, ℕ, ◌+◌, ◌-◌, ◌*◌, ◌/◌, ◌%◌, ◌<◌, eqb, get_or, set}
 use Rattle.rules.specs.Basics.{pick}
 use Rattle.nodes.specs.declared.Sort.{Sort}
 use Rattle.nodes.specs.declared.Sort.TheVariants.{Letter, Anchor, Empty, Sequence, Alternation, Group}
 use Rattle.nodes.specs.declared.Form.{Form}
-use Rattle.nodes.specs.declared.Form.TheVariants.{Bare, Star, Plus, Opt, Exactly, AtLeast, AtMost, Between}
+use Rattle.nodes.specs.declared.Form.TheVariants.{Bare, Star, Plus, Opt, Exactly, AtLeast, AtMost, Between, Other}
 use Rattle.nodes.specs.declared.Node.{Node}
 
 unfoldable pub sort_of : ℕ → Sort
@@ -32,7 +32,8 @@ form_of w =
     (pick (eqb w 3) Opt
     (pick (eqb w 4) Exactly
     (pick (eqb w 5) AtLeast
-    (pick (eqb w 6) AtMost Between))))))
+    (pick (eqb w 6) AtMost
+    (pick (eqb w 7) Between (Other (w - 8)))))))))
 
 -- a form's number
 abbrev pub number_of : Form → ℕ
@@ -44,6 +45,7 @@ number_of Exactly = 4
 number_of AtLeast = 5
 number_of AtMost = 6
 number_of Between = 7
+number_of (Other k) = 8 + k
 
 abbrev pub bit_of_bool : Bool → ℕ
 bit_of_bool true = 1
@@ -71,6 +73,7 @@ put_node s i n =
 
 -- a node whose numbers fit their words
 pub record Small (n : Node) : Type 0 where
+  pub form : number_of n.form < 32768
   pub low : n.low < 65536
   pub high : n.high < 65536
   pub left : n.left < 65536

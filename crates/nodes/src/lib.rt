@@ -19,7 +19,8 @@ pub enum Sort {
     Group,
 }
 
-// The form of a quantifier: `*`, `+`, `?`, `{n}`, `{n,}`, `{,m}` or `{n,m}`; Bare is none.
+// The form of a quantifier: `*`, `+`, `?`, `{n}`, `{n,}`, `{,m}` or `{n,m}`; Bare is none. A word of
+// a room can hold other numbers, which no reader of patterns puts there: Other(k) is number 8 + k.
 #[derive(Clone, Copy)]
 pub enum Form {
     Bare,
@@ -30,6 +31,7 @@ pub enum Form {
     AtLeast,
     AtMost,
     Between,
+    Other(usize),
 }
 
 // form: its quantifier. lazy: it is reluctant. low, high: its bounds, high 100 if it is unbounded,
@@ -109,7 +111,8 @@ fn form_of(w: u16) -> Form
         4 => Form::Exactly,
         5 => Form::AtLeast,
         6 => Form::AtMost,
-        _ => Form::Between,
+        7 => Form::Between,
+        _ => Form::Other(wide16(w - 8)),
     }
 }
 

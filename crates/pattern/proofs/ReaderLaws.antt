@@ -531,6 +531,7 @@ module _ (s : List ℕ) (at c : ℕ) (m0 : List ℕ) (b : ℕ) (eb : b ≡ peek 
                 low = omega (arith, w.low);
                 few_places = omega arith;
                 small = record {
+                  form = omega arith;
                   low = omega arith;
                   high = omega arith;
                   left = omega (arith, w.few, w.inside, w.on, k.1, f.small);

@@ -1,18 +1,19 @@
 -- Laws of parts joined, of a factor with its quantifier, and of where a branch ends: each is one
 -- way through one function.
-use mathlib.Core.Path.{◌≡◌, refl, ap, ◌∙◌}
+use mathlib.Core.Path.{◌≡◌, refl, sym, ap, subst, ◌∙◌}
 use mathlib.Core.List.{List}
-use Prim.Native.Nat.{ℕ, ◌≤◌, min}
+use Prim.Native.Nat.{ℕ, ◌<◌, ◌≤◌, min}
 use native.Mathlib.Omega.{arith}
 use lib.ListN.{drop}
 use Rattle.rules.specs.Places.{round_places}
 use Rattle.rules.specs.Language.{Form, star, plus, opt, exactly, at_least, at_most, between, lower, upper, InBounds}
 use Rattle.rules.specs.Reader.{Marked, unmarked, broken, marked, quantifier}
-use Rattle.marks.specs.Shows.{highest, high_of, Shows}
+use Rattle.marks.specs.Shows.{code_of, highest, high_of, Shows}
 use Rattle.marks.specs.declared.Mark.{Mark}
 use Rattle.text_bytes.specs.declared.Broken.{Broken}
 use Rattle.std.specs.Prelude.{Ok, Err, Some, None}
-use Rattle.nodes.specs.Nodes.{put_node}
+use Rattle.nodes.specs.Nodes.{number_of, put_node}
+use Rattle.nodes.specs.declared.Form.{Form as Kind}
 use Rattle.laws.proofs.GrammarSound.{marked-in}
 use Rattle.trees.proofs.RoundLaws.{form_order, rounds_eq}
 use Rattle.nodes.specs.declared.Node.{Node}
@@ -32,6 +33,16 @@ form_small (exactly n) i = (omega (arith, i.1), omega (arith, i.1))
 form_small (at_least n) i = (omega (arith, i), omega arith)
 form_small (at_most m) i = (omega arith, omega (arith, i.1))
 form_small (between n m) i = (omega (arith, i.1, i.2), omega (arith, i.2))
+
+code_small : (f : Form) → number_of (code_of f) < 32768
+unfolding code_of
+code_small star = omega arith
+code_small plus = omega arith
+code_small opt = omega arith
+code_small (exactly n) = omega arith
+code_small (at_least n) = omega arith
+code_small (at_most m) = omega arith
+code_small (between n m) = omega arith
 
 -- a node with a quantifier that is read
 abbrev pub marking : Node → Mark → ℕ → Node
@@ -106,6 +117,7 @@ module _ (s m : List ℕ) (p : Head) where
               fits = w.holding.fits;
               few = w.holding.few;
               small = record {
+                form = subst (λ (k : Kind). number_of k < 32768) (sym i.code) (code_small f);
                 low = omega (arith, i.from, g.0);
                 high = omega (arith, i.upto, g.1);
                 left = k.left;

@@ -36,7 +36,7 @@ leaf_on s at c r k w hw h l e n =
       few = omega arith;
       low = (let z : r.node.height ≡ 0 = ap (λ (x : Node). x.height) n in omega arith);
       few_places = (let z : r.node.places ≡ w = ap (λ (x : Node). x.places) n in omega arith);
-      small = rw n (record { low = omega arith; high = omega arith; left = omega arith; right = omega arith; height = omega arith; places = omega arith });
+      small = rw n (record { form = omega arith; low = omega arith; high = omega arith; left = omega arith; right = omega arith; height = omega arith; places = omega arith });
     }
 
 module _ (s : List ℕ) (at c b : ℕ) (eb : b ≡ peek (drop at s)) where

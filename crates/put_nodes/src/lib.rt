@@ -21,7 +21,8 @@ fn word_of(s: Sort) -> u16
 }
 
 fn number_of(form: Form) -> u16
-    ensures { (result ≡ number_of form) × (result ≤ 7) }
+    requires { number_of form < 32768 }
+    ensures { (result ≡ number_of form) × (result < 32768) }
 {
     match form {
         Form::Bare => 0,
@@ -32,11 +33,13 @@ fn number_of(form: Form) -> u16
         Form::AtLeast => 5,
         Form::AtMost => 6,
         Form::Between => 7,
+        Form::Other(k) => (8 + k) as u16,
     }
 }
 
 // A form and its reluctant mark in one word.
 fn form_word(form: Form, lazy: bool) -> u16
+    requires { number_of form < 32768 }
     ensures { result ≡ number_of form * 2 + bit_of_bool lazy }
 {
     number_of(form) * 2 + u16::from(lazy)
