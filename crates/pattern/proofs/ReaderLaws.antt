@@ -7,7 +7,7 @@ use native.Mathlib.Omega.{arith}
 use lib.Dec.{eqb}
 use lib.ListN.{length, get_or, drop, length-drop}
 use borrow.Author.Tests.{eq-eqb, ne_eqb, eqb-true, eqb-false}
-use Rattle.std.specs.Prelude.{Result, Ok, Err}
+use Rattle.std.specs.Prelude.{Result, Ok, Err, MatchResult}
 use Rattle.rules.specs.Basics.{is_letter}
 use Rattle.text_bytes.specs.Numerals.{Stops}
 use Rattle.text_bytes.specs.declared.Broken.{Broken}
@@ -559,3 +559,9 @@ module _ (s : List ℕ) (at c : ℕ) (m0 : List ℕ) (b : ℕ) (eb : b ≡ peek 
               on-shut : (t : Bool) → eqb (peek (drop p.at s)) 41 ≡ t → ReadsHead s at c m0 m1 r
               on-shut true e = let q = g.shuts (eqb-true _ _ e) in rw q.is (group-shut (eqb-true _ _ e) q)
               on-shut false e = rw (g.open_still (eqb-false _ _ e)) (group-open (eqb-false _ _ e))
+
+    -- a group whose inside was read, or is an error
+    pub primary-inner : Fits s at m0 c → (m1 : List ℕ) (p : Result Step Broken) → PhraseReads pattern s from c m0 m1 p → (y ≡ 41 → ⊥) → (r : Result Head Broken)
+        → MatchResult p (λ q. ShutIs s q r) (λ e. r ≡ Err e) → ReadsHead s at c m0 m1 r
+    primary-inner f m1 (Err e) h ny r g = rw g (group-fails ny m1 e h)
+    primary-inner f m1 (Ok p) h ny r g = primary-group f m1 p h ny r g

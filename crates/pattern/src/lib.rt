@@ -74,7 +74,7 @@ fn primary(text: &[u8], at: usize, room: &mut [u16], count: usize) -> Result<Hea
     if peek(text, from) == b')' {
         return Ok(empty_head(text, from, count));
     }
-    let p = pattern(text, from, room, count)?;
+    let p = pattern(text, from, room, count);
     shut_group(text, p)
 }
 

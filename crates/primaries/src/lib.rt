@@ -3,7 +3,7 @@
 // node is not yet in the room, a Head, or the byte at which the text is wrong (specs/Readers).
 #![tactic(auto)]
 
-ghost use Rattle.std.specs.Prelude.{◌≡◌, ◌+◌, ◌≤◌, ◌<◌, length};
+ghost use Rattle.std.specs.Prelude.{◌≡◌, ◌+◌, ◌≤◌, ◌<◌, length, Err, IfOk, MatchResult};
 ghost use Rattle.primaries.specs.Readers.{SkipTo, LeafIs, EmptyIs, ShutNeeds, ShutIs, SimpleSays};
 
 use nodes::{Node, Sort};
@@ -79,11 +79,12 @@ pub fn empty_head(text: &[u8], at: usize, count: usize) -> Head
     }
 }
 
-// Behind a pattern in parentheses: `)`.
-pub fn shut_group(text: &[u8], p: Step) -> Result<Head, Broken>
-    requires { ShutNeeds p }
-    ensures { ShutIs text.now p result }
+// Behind a pattern in parentheses: `)`. An error in the pattern is handed on.
+pub fn shut_group(text: &[u8], p: Result<Step, Broken>) -> Result<Head, Broken>
+    requires { IfOk p ShutNeeds }
+    ensures { MatchResult p (λ q. ShutIs text.now q result) (λ e. result ≡ Err e) }
 {
+    let p = p?;
     if peek(text, p.at) != b')' {
         return Err(Broken { at: p.at });
     }

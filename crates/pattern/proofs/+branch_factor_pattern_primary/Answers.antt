@@ -2,7 +2,7 @@
 -- their contracts. The measure: four times the bytes of text left, and a rank for each reader.
 -- Invariants of the loops over parts: Begun. Laws: ReaderLaws, PartLaws.
 use Rattle.primaries.proofs.PrimaryLaws.{before-end}
-use Rattle.pattern.proofs.ReaderLaws.{factor-fails, factor-ends, primary-simple, primary-empty, group-fails, primary-group}
+use Rattle.pattern.proofs.ReaderLaws.{factor-fails, factor-ends, primary-simple, primary-empty, primary-inner}
 use Rattle.pattern.proofs.PartLaws.{begun-none, begun-chained, branch-unread, branch-whole, branch-again, pattern-unread, pattern-whole, pattern-again}
 use Rattle.std.proofs.lemmas.Result.{err_from_is_err_and}
 use native.Mathlib.Omega.{arith}
@@ -67,11 +67,6 @@ primary-empty_head-requires t c = before-end _ _ _ _ c.peek-2.ensures c.if-peek-
 pub primary-returns-then-peek-eq41 : goal.primary-returns-then-peek-eq41
 primary-returns-then-peek-eq41 t c = search (rules, primary-empty)
 
-pub primary-returns-in_err-p : goal.primary-returns-in_err-p
-primary-returns-in_err-p t c =
-    let p = err_from_is_err_and c.from_residual.result c.from_residual.ensures.1 in
-    rw (p.1, p.2) (group-fails _ _ _ _ _ c.peek.ensures c.if-peek-ne40.false _ c.after-from.ensures _ c.peek-2.ensures c.if-peek-eq41.false _ _ c.in_err-p.ensures)
-
 pub primary-returns : goal.primary-returns
 primary-returns t c =
-    primary-group _ _ _ _ _ c.peek.ensures c.if-peek-ne40.false _ c.after-from.ensures _ c.peek-2.ensures c.requires _ _ c.in_ok-p.ensures c.if-peek-eq41.false _ c.shut_group.ensures
+    primary-inner _ _ _ _ _ c.peek.ensures c.if-peek-ne40.false _ c.after-from.ensures _ c.peek-2.ensures c.requires _ _ c.pattern-p.ensures c.if-peek-eq41.false _ c.shut_group.ensures
