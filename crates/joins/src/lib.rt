@@ -47,6 +47,26 @@ impl Join {
     }
 }
 
+// A row of the match: its entry is joined to `value` if it is one of the measure's rows.
+pub fn take_row(
+    join: Join,
+    letter: u8,
+    value: i64,
+    label: u8,
+    rows: &[i32],
+    columns: usize,
+    row: usize,
+    column: usize,
+) -> i64
+    requires { (mag value ≤ 8796093022208) × Inside rows.now columns row column }
+    ensures { (result ≡ pick (is_of letter label) (joined (number_of join) value (entry (table_of columns rows.now) row column)) value) × (mag result ≤ mag value + 2147483648) }
+{
+    if !is_of(letter, label) {
+        return value;
+    }
+    join.of(value, entry_at(rows, columns, row, column))
+}
+
 // The rows of a match: a row for each of its labels, from row `first` on, of so many columns.
 #[derive(Clone, Copy)]
 pub struct MatchRows<'a> {
@@ -77,9 +97,16 @@ impl<'a> MatchRows<'a> {
         requires { (mag value ≤ 8796093022208) × (i < length self.now.labels.now) × (m.column < self.now.columns) }
         ensures { (result ≡ pick (is_of m.letter (slice_index self.now.labels.now i)) (joined (number_of join) value (entry (table_of self.now.columns self.now.rows.now) (self.now.first + i) m.column)) value) × (mag result ≤ mag value + 2147483648) }
     {
-        if !is_of(m.letter, self.labels[i]) {
-            return value;
-        }
-        join.of(value, self.entry(i, m))
+        let row = self.first + i;
+        take_row(
+            join,
+            m.letter,
+            value,
+            self.labels[i],
+            self.rows,
+            self.columns,
+            row,
+            usize::from(m.column),
+        )
     }
 }
