@@ -7,7 +7,6 @@ use Rattle.rules.specs.Lots.{looks_ahead}
 use Rattle.prepared.specs.Ready.{Ready, Given}
 use Rattle.prepared.specs.declared.Prepared.{Prepared}
 use Rattle.matches.specs.declared.Sweep.{Sweep}
-use Rattle.matches.specs.Ends.{answer_of as answer_at_end}
 use Rattle.matches.specs.declared.Task.{Task}
 use Rattle.starting.specs.declared.Terms.{Terms}
 use Rattle.starting.specs.Starts as S
@@ -49,7 +48,7 @@ kept_by c s =
       allowance = c.feed.allowance;
       present = c.present;
       begun = 1;
-      answer = answer_at_end s.end;
+      answer = s.end;
       row = s.row;
       matches = s.matches;
       labels = s.labels;
@@ -58,7 +57,7 @@ kept_by c s =
     }
 
 abbrev pub outcome_by : Sweep → Outcome
-outcome_by s = record { answer = answer_at_end s.end; matches = s.matches; labels = s.labels; steps = s.steps; offset = 0 }
+outcome_by s = record { answer = s.end; matches = s.matches; labels = s.labels; steps = s.steps; offset = 0 }
 
 -- what is told of some query
 pub record Told (T : List ℕ) (r : Result Prepared Refusal) : Type 0 where

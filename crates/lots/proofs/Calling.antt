@@ -23,8 +23,6 @@ use Rattle.prepared.specs.Ready.{Ready}
 use Rattle.prepared.specs.declared.Prepared.{Prepared}
 use Rattle.matches.specs.declared.Task as C
 use Rattle.matches.specs.declared.Sweep.{Sweep}
-use Rattle.matches.specs.declared.End.TheVariants.{Done}
-use Rattle.matches.specs.Ends.{answer_of}
 use Rattle.matches.specs.Asked.{asked_of, search_of}
 use Rattle.sweep.specs.Searched.{Came, WentOn, gapped, Answered}
 use Rattle.sweep.proofs.Clearing.{zeros-long}
@@ -59,7 +57,7 @@ module _ (s : Named) (begins : begin_answer s ≡ 0) (a : ℕ) (al : s.allowance
   abbrev R : Swept Kept
   R = search_of (asked_of T part t) (length s.lent.numbers) (length s.lent.labels)
 
-  from_is : kept_in f ≡ record { end = Done; row = i; matches = length (lot_walk s rows₁ n₁ false).matches; labels = length (labels_of (present_task s rows₂ n₂).places (lot_walk s rows₁ n₁ false).matches); steps = (lot_walk s rows₁ n₁ false).state.steps - length u; opened = 0 }
+  from_is : kept_in f ≡ record { end = 0; row = i; matches = length (lot_walk s rows₁ n₁ false).matches; labels = length (labels_of (present_task s rows₂ n₂).places (lot_walk s rows₁ n₁ false).matches); steps = (lot_walk s rows₁ n₁ false).state.steps - length u; opened = 0 }
   from_is = rw (row, matched, labelled, stepped, opened) refl
 
   module _ (notes' trail' : List ℕ) (numbers' : List ℤ) (labels' : List ℕ) (r : Sweep) (w : WentOn T part t notes trail numbers labels (kept_in f) notes' trail' numbers' labels' r)
@@ -78,20 +76,20 @@ module _ (s : Named) (begins : begin_answer s ≡ 0) (a : ℕ) (al : s.allowance
         (later-noted s begins a al T p ready rows₁ rows₂ n₁ n₂ lot₁ lot₂ later last i u end t task notes trail numbers labels fed left.notes left.numbers left.labels long-numbers long-labels
         notes' R.state.failed (ap (λ (k : ℕ). bits_of notes' k) (sym pairs-same) ∙ came.kept) (λ z l. w.notes_beyond z (rw pairs-same l)) w.notes_long bytes bytes₀)
 
-    zeroed : (answer_of r.end ≡ 23 → ⊥) → trail' ≡ wrote s.lent.trail 0 (zeros t.pairs)
+    zeroed : (r.end ≡ 23 → ⊥) → trail' ≡ wrote s.lent.trail 0 (zeros t.pairs)
     zeroed e =
         w.trailed.zeroed e
         ∙ wrote-over 0 trail s.lent.trail (zeros t.pairs) long_trail (rw (zeros-long t.pairs) room)
         (λ k l. drop_at t.pairs trail s.lent.trail trail_beyond k (rw (zeros-long t.pairs) at l) long_trail)
 
-    pub later-leaves : (o : Outcome) → o ≡ record { answer = answer_of r.end; matches = r.matches; labels = r.labels; steps = r.steps; offset = 0 }
+    pub later-leaves : (o : Outcome) → o ≡ record { answer = r.end; matches = r.matches; labels = r.labels; steps = r.steps; offset = 0 }
         → Leaves s (lot_memory s rows₂ n₂ last) (memory o notes' trail' numbers' labels')
     later-leaves o eo =
         leaves s begins a al T p ready rows₂ n₂ lot₂ last t task notes trail fed notes' trail' numbers' labels' r o eo came.reported noted zeroed (w.trailed.trail_long ∙ long_trail)
         (w.trailed.trail_beyond ∙ trail_beyond) room
 
     -- and tells where it waits
-    pub later-waits : (o : Outcome) → o ≡ record { answer = answer_of r.end; matches = r.matches; labels = r.labels; steps = r.steps; offset = 0 }
+    pub later-waits : (o : Outcome) → o ≡ record { answer = r.end; matches = r.matches; labels = r.labels; steps = r.steps; offset = 0 }
         → (i : ℕ) (u : List ℕ) → (lot_walk s rows₂ n₂ last).end ≡ unfinished out_of_rows i u → (r.row ≡ i) × (r.opened ≡ length u)
     later-waits o eo =
         waits-told s begins a al T p ready rows₂ n₂ lot₂ last t task notes trail fed notes' trail' numbers' labels' r o eo came.reported noted zeroed (w.trailed.trail_long ∙ long_trail)
@@ -103,13 +101,13 @@ module _ (s : Named) (begins : begin_answer s ≡ 0) (a : ℕ) (al : s.allowance
     (fed : Fed p (record { rows = n; largest = s.largest; allowance = a; more = not last }) (present_rows s.query rows n) s.lent.notes s.lent.trail) (room : t.pairs ≤ length s.lent.trail)
     (notes trail : List ℕ) (numbers : List ℤ) (labels : List ℕ) (r : Sweep)
     (d : Answered T (present_rows s.query rows n) t s.lent.notes s.lent.trail s.lent.numbers s.lent.labels notes trail numbers labels r) where
-  pub first-leaves : (o : Outcome) → o ≡ record { answer = answer_of r.end; matches = r.matches; labels = r.labels; steps = r.steps; offset = 0 }
+  pub first-leaves : (o : Outcome) → o ≡ record { answer = r.end; matches = r.matches; labels = r.labels; steps = r.steps; offset = 0 }
       → Leaves s (lot_memory s rows n last) (memory o notes trail numbers labels)
   first-leaves o eo =
       leaves s begins a al T p ready rows n lot last t task s.lent.notes s.lent.trail fed notes trail numbers labels r o eo d.reported d.notes_is d.trailed.zeroed d.trailed.trail_long
       d.trailed.trail_beyond room
 
-  pub first-waits : (o : Outcome) → o ≡ record { answer = answer_of r.end; matches = r.matches; labels = r.labels; steps = r.steps; offset = 0 }
+  pub first-waits : (o : Outcome) → o ≡ record { answer = r.end; matches = r.matches; labels = r.labels; steps = r.steps; offset = 0 }
       → (i : ℕ) (u : List ℕ) → (lot_walk s rows n last).end ≡ unfinished out_of_rows i u → (r.row ≡ i) × (r.opened ≡ length u)
   first-waits o eo =
       waits-told s begins a al T p ready rows n lot last t task s.lent.notes s.lent.trail fed notes trail numbers labels r o eo d.reported d.notes_is d.trailed.zeroed d.trailed.trail_long

@@ -31,7 +31,6 @@ use Rattle.prepared.specs.Ready.{Ready}
 use Rattle.prepared.specs.declared.Prepared.{Prepared}
 use Rattle.matches.specs.declared.Task as C
 use Rattle.matches.specs.declared.Sweep.{Sweep}
-use Rattle.matches.specs.Ends.{answer_of}
 use Rattle.matches.specs.Asked.{asked_of, search_of}
 use Rattle.sweep.specs.Searched.{Reported, gapped}
 use Rattle.starting.specs.Starts.{TaskFor, Fed}
@@ -134,9 +133,9 @@ module _ (s : Named) (begins : begin_answer s ≡ 0) (a : ℕ) (al : s.allowance
       let c = count-is in
       omega arith
 
-  module _ (notes trail : List ℕ) (numbers : List ℤ) (labels : List ℕ) (r : Sweep) (o : Outcome) (eo : o ≡ record { answer = answer_of r.end; matches = r.matches; labels = r.labels; steps = r.steps; offset = 0 })
+  module _ (notes trail : List ℕ) (numbers : List ℤ) (labels : List ℕ) (r : Sweep) (o : Outcome) (eo : o ≡ record { answer = r.end; matches = r.matches; labels = r.labels; steps = r.steps; offset = 0 })
       (reported : Reported (asked_of T part t) R s.lent.numbers s.lent.labels numbers labels r) (noted : notes ≡ wrote s.lent.notes 0 (notes_of (gapped t.pairs R.state.failed)))
-      (zeroed : (answer_of r.end ≡ 23 → ⊥) → trail ≡ wrote s.lent.trail 0 (zeros t.pairs)) (trail_long : length trail ≡ length s.lent.trail) (trail_beyond : drop t.pairs trail ≡ drop t.pairs s.lent.trail)
+      (zeroed : (r.end ≡ 23 → ⊥) → trail ≡ wrote s.lent.trail 0 (zeros t.pairs)) (trail_long : length trail ≡ length s.lent.trail) (trail_beyond : drop t.pairs trail ≡ drop t.pairs s.lent.trail)
       (room : t.pairs ≤ length s.lent.trail) where
     abbrev walk : Swept Kept
     walk = lot_walk s rows n last
@@ -144,7 +143,7 @@ module _ (s : Named) (begins : begin_answer s ≡ 0) (a : ℕ) (al : s.allowance
     matches-are : R.matches ≡ walk.matches
     matches-are = ap (λ (w : Swept Kept). w.matches) R-is ∙ sym (ap (λ (w : Swept Kept). w.matches) walk_is)
 
-    end_is : answer_of r.end ≡ end_answer walk.end
+    end_is : r.end ≡ end_answer walk.end
     end_is = reported.end ∙ ap (λ (w : Swept Kept). end_answer w.end) R-is ∙ sym (ap (λ (w : Swept Kept). end_answer w.end) walk_is)
 
     steps_are : r.steps ≡ walk.state.steps
@@ -173,7 +172,7 @@ module _ (s : Named) (begins : begin_answer s ≡ 0) (a : ℕ) (al : s.allowance
           numbers = reported.numbers_is ∙ ap (wrote s.lent.numbers 0) (numbered q T p ready (record { rows = n; largest = s.largest; allowance = a; more = not last }) part notes₁ trail₁ fed t task 0 R.matches
               ∙ ap (numbers_of t₂.table t₂.measures t₂.places 0) matches-are);
           labels = reported.labels_is ∙ ap (wrote s.lent.labels 0) ms;
-          trail = λ e. zeroed (λ (h : answer_of r.end ≡ 23). e (sym end_is ∙ h)) ∙ ap (wrote s.lent.trail 0) b;
+          trail = λ e. zeroed (λ (h : r.end ≡ 23). e (sym end_is ∙ h)) ∙ ap (wrote s.lent.trail 0) b;
           trail_length = trail_long ∙ sym (length-wrote_at s.lent.trail 0 (zeros (length walk.state.failed)) (let c = ap length b in omega arith));
           trail_beyond =
               ap (λ (k : ℕ). drop k trail) (sym pairs_are) ∙ trail_beyond

@@ -50,7 +50,6 @@ use Rattle.table_room.specs.Words.{measures_at, tests_at}
 use Rattle.skips.specs.Skips.{skip_in}
 use Rattle.matches.specs.declared.Task as C
 use Rattle.matches.specs.declared.Sweep.{Sweep}
-use Rattle.matches.specs.declared.End.TheVariants.{Done}
 use Rattle.matches.specs.Asked as S
 use Rattle.matches.specs.Asked.{Asked, asked_of, search_of}
 use Rattle.starting.specs.Starts.{TaskFor, Fed}
@@ -317,7 +316,7 @@ module _ (s : Named) (begins : begin_answer s ≡ 0) (a : ℕ) (al : s.allowance
         labels_at = rw task-is at (labelled q T p ready (record { rows = n₂; largest = s.largest; allowance = a; more = not last }) part notes trail fed t task before₁.matches)
 
         abbrev from : Sweep
-        from = record { end = Done; row = i; matches = length before₁.matches; labels = length (labels_of t₂.places before₁.matches); steps = before₁.state.steps - length u; opened = 0 }
+        from = record { end = 0; row = i; matches = length before₁.matches; labels = length (labels_of t₂.places before₁.matches); steps = before₁.state.steps - length u; opened = 0 }
 
         stands_by : SoFar T part by s.lent.numbers s.lent.labels (search_of A nums labs) notes numbers labels from
         stands_by =

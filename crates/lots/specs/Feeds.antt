@@ -1,7 +1,6 @@
 -- What is kept between the calls of a search by lots, and what a call's search asks and leaves.
 use Rattle.std.specs.Prelude.{◌≡◌, List, ℕ, ◌-◌, ◌≤◌, ℤ, length}
 use Rattle.matches.specs.declared.Sweep.{Sweep}
-use Rattle.matches.specs.declared.End.TheVariants.{Done}
 use Rattle.matches.specs.declared.Task.{Task}
 use Rattle.matches.specs.Found.{Searches}
 use Rattle.sweep.specs.Searched.{Measures, WentOn, Answered}
@@ -15,7 +14,7 @@ new_feed largest allowance =
 -- where the search goes on: at the start at which it waited, with the steps of its open pairs taken
 -- back
 abbrev pub kept_in : Feed → Sweep
-kept_in f = record { end = Done; row = f.row; matches = f.matches; labels = f.labels; steps = f.steps - f.opened; opened = 0 }
+kept_in f = record { end = 0; row = f.row; matches = f.matches; labels = f.labels; steps = f.steps - f.opened; opened = 0 }
 
 -- the numbers of what is kept lie within their bounds
 pub record Within (labs : List ℕ) (f : Feed) : Type 0 where

@@ -28,7 +28,6 @@ use Rattle.pairs.specs.Step.{pair_in, stack, pair_of}
 use Rattle.pairs.specs.State.{takes, Word}
 use Rattle.pairs.proofs.Ways.{in_length, by_high}
 use Rattle.pairs.proofs.Trails.{path_top, path_linked, path_row, path_at}
-use Rattle.matches.specs.declared.End.TheVariants.{Full}
 use Rattle.matches.specs.declared.Sweep.{Sweep}
 use Rattle.matches.specs.declared.Task.{Task}
 use Rattle.skips.specs.Skips.{skip_in, start_in}
@@ -188,5 +187,5 @@ module _ (W : List ℕ) (rows : List ℤ) (task : Task) (trail labs : List ℕ) 
 
     pub tell_full : (numbers : List ℤ) → nums ≡ length numbers → r ≡ false
         → Told (asked_of W rows task) (hit p) i w.steps numbers numbers labs labs
-        (record { end = Full; row = n; matches = i.matches; labels = i.labels; steps = w.steps; opened = 0 })
+        (record { end = 13; row = n; matches = i.matches; labels = i.labels; steps = w.steps; opened = 0 })
     tell_full numbers en et = rw (← en, sym fits-is ∙ et) (record { numbers_is = refl; labels_is = refl; sweep_is = refl })

@@ -1,6 +1,7 @@
 -- A path that was found: its labels, its report, and what one start of the search leaves.
 use Rattle.std.specs.Prelude.{◌≡◌, List, ◌∷◌, Bool, true, false, ℕ, ◌+◌, ◌*◌, ◌≤◌, ◌<◌, ltb, ℤ, length, get_or}
 use Rattle.std.proofs.Math.Option.{Option, none, some}
+use Rattle.rules.specs.Answers.{halt_answer}
 use Rattle.rules.specs.Basics.{wrote}
 use Rattle.rules.specs.Report.{bit_at, match_numbers, lent_room, fits}
 use Rattle.rules.specs.Search.{Attempted, hit, miss, halts, answered, labels, next_start, end_of}
@@ -12,12 +13,9 @@ use Rattle.pairs.specs.Layout.{Layout, P, N, Legal, halts_in, layout_of, letters
 use Rattle.table.specs.Table.{code_at}
 use Rattle.pairs.specs.Step.{pair_in}
 use Rattle.pairs.specs.State.{Word, OnPath, attempt_by}
-use Rattle.matches.specs.declared.End.{End}
-use Rattle.matches.specs.declared.End.TheVariants.{Done, Full, Stuck}
 use Rattle.matches.specs.declared.Sweep.{Sweep}
 use Rattle.matches.specs.declared.Task.{Task}
 use Rattle.matches.specs.Asked.{Asked, pl, width, labels_on}
-use Rattle.matches.specs.Ends.{halted}
 
 -- ---- labels
 
@@ -49,7 +47,7 @@ pub record Labels (T : Layout) (trail labs : List ℕ) (top end : ℕ) : Type 0 
 
 -- ---- the report of a path
 
-abbrev pub swept : End → ℕ → ℕ → ℕ → ℕ → Sweep
+abbrev pub swept : ℕ → ℕ → ℕ → ℕ → ℕ → Sweep
 swept end row m l s = record { end = end; row = row; matches = m; labels = l; steps = s; opened = 0 }
 
 -- a search that has halted in the attempt at a row: where it waits, it tells how many pairs are
@@ -59,13 +57,13 @@ open_by out_of_steps p = 0
 open_by out_of_rows p = length p
 
 abbrev pub swept_at : Halt → List ℕ → ℕ → ℕ → ℕ → ℕ → Sweep
-swept_at h p row m l s = record { end = halted h; row = row; matches = m; labels = l; steps = s; opened = open_by h p }
+swept_at h p row m l s = record { end = halt_answer h; row = row; matches = m; labels = l; steps = s; opened = open_by h p }
 
 -- behind a match that is written the search goes on at its next start; where there is none it is
 -- over, with answer 15
 abbrev pub swept_on : Option ℕ → ℕ → ℕ → ℕ → ℕ → Sweep
-swept_on (some row) n m l s = swept Done row m l s
-swept_on none n m l s = swept Stuck n m l s
+swept_on (some row) n m l s = swept 0 row m l s
+swept_on none n m l s = swept 15 n m l s
 
 pub record Quiet (numbers numbers' : List ℤ) (labs labs' : List ℕ) (r : Sweep) (to : Sweep) : Type 0 where
   pub numbers_is : numbers' ≡ numbers
@@ -86,12 +84,12 @@ next_at A i p = next_start A.skip i (end_of (length (pl A)) p) (labels (pl A) p)
 abbrev pub ToldBy : Bool → Asked → List ℕ → Sweep → ℕ → List ℤ → List ℤ → List ℕ → List ℕ → Sweep → Type 0
 ToldBy true A p i s numbers numbers' labs labs' r =
     Written A p i numbers numbers' labs labs' r (swept_on (next_at A i.row p) A.n (i.matches + 1) (i.labels + length (labels (pl A) p)) s)
-ToldBy false A p i s numbers numbers' labs labs' r = Quiet numbers numbers' labs labs' r (swept Full A.n i.matches i.labels s)
+ToldBy false A p i s numbers numbers' labs labs' r = Quiet numbers numbers' labs labs' r (swept 13 A.n i.matches i.labels s)
 
 -- what came of an attempt, told: after none the search goes on one row on; where it has halted, the
 -- search is over and nothing is written
 abbrev pub Told : Asked → Attempted → Sweep → ℕ → List ℤ → List ℤ → List ℕ → List ℕ → Sweep → Type 0
-Told A miss i s numbers numbers' labs labs' r = Quiet numbers numbers' labs labs' r (swept Done (i.row + 1) i.matches i.labels s)
+Told A miss i s numbers numbers' labs labs' r = Quiet numbers numbers' labs labs' r (swept 0 (i.row + 1) i.matches i.labels s)
 Told A (halts h p) i s numbers numbers' labs labs' r = Quiet numbers numbers' labs labs' r (swept_at h p i.row i.matches i.labels s)
 Told A (hit p) i s numbers numbers' labs labs' r =
     ToldBy (fits (lent_room (length numbers) (length labs) A.measures) i.matches i.labels (labels (pl A) p)) A p i s numbers numbers' labs labs' r

@@ -8,7 +8,6 @@ ghost use Rattle.rules.specs.Search.{hit};
 ghost use Rattle.table.specs.Table.{code_at};
 ghost use Rattle.pairs.specs.Layout.{layout};
 ghost use Rattle.skips.specs.Skips.{start_in};
-ghost use Rattle.matches.specs.Ends.{answer_of};
 ghost use Rattle.matches.specs.Asked.{asked_of, labels_on, path_on};
 ghost use Rattle.matches.specs.Found.{OneMore, PutsLabel, Labels, swept_on, Told, Reports};
 
@@ -30,44 +29,32 @@ pub struct Task {
     pub skip: Skip,
 }
 
-// How a search ends: it is done or goes on, the next match does not fit, the match written last
-// names no start to go on at, no step is left for the next entry, or it waits for a row.
-#[derive(Clone, Copy, PartialEq, Eq)]
-pub enum End {
-    Done,
-    Full,
-    Stuck,
-    OutOfSteps,
-    OutOfRows,
-}
-
-impl End {
-    // Its number among the answers.
-    pub fn answer(self) -> usize
-        ensures { result ≡ answer_of self }
-    {
-        match self {
-            End::Done => 0,
-            End::Full => 13,
-            End::Stuck => 15,
-            End::OutOfSteps => 16,
-            End::OutOfRows => 23,
-        }
-    }
-}
-
 // A search under way: how it ended, if it did; the next start, or the one at which it waits; the
 // matches and labels written; the steps; and, where it waits in an attempt, how many pairs are
 // open.
+#[repr(C)]
 #[derive(Clone, Copy)]
 pub struct Sweep {
-    pub end: End,
+    pub end: usize,
     pub row: usize,
     pub matches: usize,
     pub labels: usize,
     pub steps: usize,
     pub opened: usize,
 }
+
+// How a search ends, by its answer: it is done, the next match does not fit, the match written last
+// names no start to go on at, no step is left for the next entry, or it waits for a row. Numbers and
+// no enum: `write_match`, sweep's `go_on` and outcome's `finished` take a Sweep with any of them.
+pub const DONE: usize = 0;
+
+pub const FULL: usize = 13;
+
+pub const STUCK: usize = 15;
+
+pub const OUT_OF_STEPS: usize = 16;
+
+pub const OUT_OF_ROWS: usize = 23;
 
 // A code of a letter as its label.
 fn label_of(c: usize) -> u8
@@ -120,8 +107,8 @@ fn behind_match(
     ensures { result ≡ swept_on (start_in next) rows matches labels steps }
 {
     let (end, row) = match next {
-        Some(row) => (End::Done, row),
-        None => (End::Stuck, rows),
+        Some(row) => (DONE, row),
+        None => (STUCK, rows),
     };
     Sweep {
         end,
@@ -175,7 +162,7 @@ pub fn write_match(
         return behind_match(next, size.rows, m + 1, end, w.steps);
     }
     Sweep {
-        end: End::Full,
+        end: FULL,
         row: size.rows,
         matches: m,
         labels: l,

@@ -3,7 +3,6 @@
 
 ghost use Rattle.std.specs.Prelude.{◌≡◌};
 ghost use Rattle.refusals.specs.Refusals.{answer_of, offset_of};
-ghost use Rattle.matches.specs.Ends.{answer_of as answer_at_end};
 ghost use Rattle.outcome.specs.Results.{refusal};
 
 use refusals::Refusal;
@@ -37,10 +36,10 @@ impl From<Refusal> for Outcome {
 
 // Done or stopped, by what all starts came to.
 pub fn finished(s: matches::Sweep) -> Outcome
-    ensures { result ≡ record { answer = answer_at_end s.end; matches = s.matches; labels = s.labels; steps = s.steps; offset = 0 } }
+    ensures { result ≡ record { answer = s.end; matches = s.matches; labels = s.labels; steps = s.steps; offset = 0 } }
 {
     Outcome {
-        answer: s.end.answer(),
+        answer: s.end,
         matches: s.matches,
         labels: s.labels,
         steps: s.steps,

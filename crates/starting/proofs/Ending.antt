@@ -16,7 +16,6 @@ use Rattle.rules.specs.Answers.{task_of, letter_holds, walked_on, walk_within, h
 use Rattle.matches.specs.Asked as S
 use Rattle.matches.specs.Asked.{asked_of}
 use Rattle.matches.specs.declared.Sweep.{Sweep}
-use Rattle.matches.specs.Ends.{answer_of}
 use Rattle.matches.specs.declared.Task.{Task}
 use Rattle.laws.proofs.Waits.{no-rows_end, search_no_wait}
 use Rattle.pairs.specs.Layout.{N, layout_of}
@@ -46,7 +45,7 @@ module _ (T : List ℕ) (p : Prepared) (terms : Terms) (rows : List ℤ) (notes 
       waits-not (walked_on (within (some terms.allowance) (task_of q rows).table.n) (task_of q rows) (length num) (length lab)).end
       (no-rows_end _ (search_no_wait (task_of q rows).table.n (some terms.allowance) (letter_holds (task_of q rows)) (task_of q rows).table.n (task_of q rows).places (task_of q rows).skip (fits (lent_room (length num) (length lab) (task_of q rows).measures))))
 
-  pub run-ended : (r : Outcome) → r ≡ record { answer = answer_of s.end; matches = s.matches; labels = s.labels; steps = s.steps; offset = 0 }
+  pub run-ended : (r : Outcome) → r ≡ record { answer = s.end; matches = s.matches; labels = s.labels; steps = s.steps; offset = 0 }
       → (q : List ℕ) → Ready q T p → memory r notes' trail' num' lab' ≡ ended terms.allowance q rows (lent notes trail num lab)
   unfolding ended accepted report_of walk_within
   run-ended r e q a =
@@ -54,7 +53,7 @@ module _ (T : List ℕ) (p : Prepared) (terms : Terms) (rows : List ℤ) (notes 
       let W : Swept Kept = walked_on (within (some terms.allowance) (task_of q rows).table.n) (task_of q rows) (length num) (length lab) in
       let R : Swept Kept = S.search_of (asked_of T rows t) (length num) (length lab) in
       let f : R ≡ W = found q T p a terms rows notes trail fed t h (length num) (length lab) ∙ ap (λ (b : Bool). walked_on (record { largest = (task_of q rows).table.n; more = b; allowance = some terms.allowance }) (task_of q rows) (length num) (length lab)) w.no_more in
-      let end : answer_of s.end ≡ end_answer W.end = g.reported.end ∙ ap (λ (w : Swept Kept). end_answer w.end) f in
+      let end : s.end ≡ end_answer W.end = g.reported.end ∙ ap (λ (w : Swept Kept). end_answer w.end) f in
       let m : s.matches ≡ length W.matches = g.reported.matches ∙ ap (λ (w : Swept Kept). length w.matches) f in
       let l : s.labels ≡ length (labels_of (task_of q rows).places W.matches) =
       g.reported.labels ∙ ap length (labelled q T p a terms rows notes trail fed t h R.matches) ∙ ap (λ (w : Swept Kept). length (labels_of (task_of q rows).places w.matches)) f in
@@ -69,5 +68,5 @@ module _ (T : List ℕ) (p : Prepared) (terms : Terms) (rows : List ℤ) (notes 
       let pn : t.pairs ≡ length W.state.failed = h.pairs_are ∙ ap (λ (k : ℕ). p.places * k) (add-one terms.largest) ∙ ap (λ (k : ℕ). pairs p.places k) w.whole ∙ sym (ap₂ (λ (x y : ℕ). pairs x y) h.places h.rows) ∙ kn in
       let ga : gapped t.pairs W.state.failed ≡ W.state.failed = (let z : t.pairs - length W.state.failed ≡ 0 = omega arith in ap (λ (k : ℕ). W.state.failed ++ replicate k false) z ∙ append-nil W.state.failed) in
       let no : notes' ≡ wrote notes 0 (notes_of W.state.failed) = g.notes_is ∙ ap (λ (w : Swept Kept). wrote notes 0 (notes_of (gapped t.pairs w.state.failed))) f ∙ ap (λ (F : List Bool). wrote notes 0 (notes_of F)) ga in
-      let tr : trail' ≡ wrote trail 0 (zeros (length W.state.failed)) = g.trailed.zeroed (λ (z : answer_of s.end ≡ 23). never_waits q (sym end ∙ z)) ∙ ap (λ (k : ℕ). wrote trail 0 (zeros k)) pn in
+      let tr : trail' ≡ wrote trail 0 (zeros (length W.state.failed)) = g.trailed.zeroed (λ (z : s.end ≡ 23). never_waits q (sym end ∙ z)) ∙ ap (λ (k : ℕ). wrote trail 0 (zeros k)) pn in
       rw (e, end, m, l, st, nu, la, no, tr)

@@ -17,9 +17,7 @@ use Rattle.laws.proofs.Notes.{bits_of-at, bits_from-length}
 use Rattle.rules.specs.Working.{bits_of}
 use Rattle.laws.proofs.NotesWritten.{wrote-over, notes_written}
 use Rattle.pairs.specs.Layout.{N, most_pairs}
-use Rattle.matches.specs.declared.End.TheVariants.{Done}
 use Rattle.matches.specs.declared.Sweep.{Sweep}
-use Rattle.matches.specs.Ends.{answer_of}
 use Rattle.matches.specs.declared.Task.{Task}
 use Rattle.matches.specs.Found.{Searches}
 use Rattle.matches.specs.Asked.{Asked, search_of, asked_of}
@@ -51,7 +49,7 @@ module _ (W : List ℕ) (rows : List ℤ) (task : Task) (n₁ t₁ : List ℕ) (
   pub words_fit : task.pairs ≤ length trail
   words_fit = rw d.beyond.trail_long m.trailed
 
-  pub went-waits : answer_of r.end ≡ 23 → WentOn W rows task n₁ t₁ numbers₁ labs₁ i notes trail numbers labs r
+  pub went-waits : r.end ≡ 23 → WentOn W rows task n₁ t₁ numbers₁ labs₁ i notes trail numbers labs r
   went-waits e =
       let l = m.more in
       record {
@@ -154,7 +152,7 @@ module _ (W : List ℕ) (rows : List ℤ) (task : Task) (n₀ t₀ : List ℕ) (
         ext_get_or false (bits_of n₁ M) (replicate M false) (bits_from-length n₁ M 0 ∙ sym (length-replicate M false))
         (λ k l. let g : k < M = rw (bits_from-length n₁ M 0) at l in let b = m.more in bits_of-at n₁ M k g ∙ zero_bit k (omega arith) ∙ sym (get_or-replicate M k false false g))
 
-    pub cleared-sound : (labs : List ℕ) → Sound W rows task n₁ t₀ labs (record { end = Done; row = 0; matches = 0; labels = 0; steps = 0; opened = 0 })
+    pub cleared-sound : (labs : List ℕ) → Sound W rows task n₁ t₀ labs (record { end = 0; row = 0; matches = 0; labels = 0; steps = 0; opened = 0 })
     cleared-sound labs =
         record {
           searches = record { letters = h.letters; measured = h.measured; legal = h.legal; noted = rw long₁ h.noted; trailed = h.trailed };
@@ -168,7 +166,7 @@ module _ (W : List ℕ) (rows : List ℤ) (task : Task) (n₀ t₀ : List ℕ) (
 
     pub search_done : (num₀ : List ℤ) (lab₀ notes trail : List ℕ) (numbers : List ℤ) (labs : List ℕ) (r : Sweep)
         → ((k : ℕ) → get_or notes k 0 < 256) → ((k : ℕ) → get_or n₀ k 0 < 256)
-        → WentOn W rows task n₁ t₀ num₀ lab₀ (record { end = Done; row = 0; matches = 0; labels = 0; steps = 0; opened = 0 }) notes trail numbers labs r
+        → WentOn W rows task n₁ t₀ num₀ lab₀ (record { end = 0; row = 0; matches = 0; labels = 0; steps = 0; opened = 0 }) notes trail numbers labs r
         → Answered W rows task n₀ t₀ num₀ lab₀ notes trail numbers labs r
     unfolding bytes_for
     search_done num₀ lab₀ notes trail numbers labs r bs bs₀ d =

@@ -9,9 +9,7 @@ use lib.IntN.{ℤ}
 use lib.ListN.{length}
 use Rattle.rules.specs.Search.{Swept}
 use Rattle.pairs.specs.Layout.{N, layout_of}
-use Rattle.matches.specs.declared.End.TheVariants.{OutOfRows}
 use Rattle.matches.specs.declared.Sweep.{Sweep}
-use Rattle.matches.specs.Ends.{answer_of}
 use Rattle.matches.specs.declared.Task.{Task}
 use Rattle.matches.specs.Asked.{asked_of}
 use Rattle.matches.specs.Found.{Visits, Visited}
@@ -38,7 +36,7 @@ module _ (T : List ℕ) (rows : List ℤ) (task : Task) (n₁ t₁ : List ℕ) (
       pub going_all : task.size.more ≡ false → Searched T rows task n₁ t₁ numbers₁ labs₁ i₁ notes trail numbers labs i
       going_all e = record { beyond = h.beyond; came = λ num₁ lab₁ goal s. so_all T rows task num₁ lab₁ goal notes numbers labs i (h.so_far num₁ lab₁ goal s) ge e }
 
-      pub going_waits : task.size.more ≡ true → (r : Sweep) → r ≡ record { end = OutOfRows; row = i.row; matches = i.matches; labels = i.labels; steps = i.steps; opened = 0 }
+      pub going_waits : task.size.more ≡ true → (r : Sweep) → r ≡ record { end = 23; row = i.row; matches = i.matches; labels = i.labels; steps = i.steps; opened = 0 }
           → Searched T rows task n₁ t₁ numbers₁ labs₁ i₁ notes trail numbers labs r
       going_waits e r er = record { beyond = h.beyond; came = λ num₁ lab₁ goal s. so_waits T rows task num₁ lab₁ goal notes numbers labs i (h.so_far num₁ lab₁ goal s) ge e r er }
 
@@ -56,10 +54,10 @@ module _ (T : List ℕ) (rows : List ℤ) (task : Task) (n₁ t₁ : List ℕ) (
         pub going_labels : length labs' ≡ length labs₁
         going_labels = sound_labels T rows task notes trail numbers labs i h.sound lt notes' trail' numbers' labs' r v ∙ h.labels_long
 
-        pub going_over : (answer_of r.end ≡ 0 → ⊥) → Searched T rows task n₁ t₁ numbers₁ labs₁ i₁ notes' trail' numbers' labs' r
+        pub going_over : (r.end ≡ 0 → ⊥) → Searched T rows task n₁ t₁ numbers₁ labs₁ i₁ notes' trail' numbers' labs' r
         going_over e = record { beyond = beyond; came = λ num₁ lab₁ goal s. so_over T rows task num₁ lab₁ goal notes numbers labs i (h.so_far num₁ lab₁ goal s) lt notes' trail trail' numbers' labs' r v e }
 
-        module _ (e : answer_of r.end ≡ 0) where
+        module _ (e : r.end ≡ 0) where
           pub going_less : task.size.rows - r.row < task.size.rows - i.row
           going_less = sound_less T rows task notes trail numbers labs i h.sound lt notes' trail' numbers' labs' r v e
 

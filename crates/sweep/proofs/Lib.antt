@@ -1,4 +1,3 @@
-pub mod Ends
 pub mod Visiting
 pub mod Sofar
 pub mod Clearing

@@ -21,9 +21,7 @@ use Rattle.rules.specs.Working.{bits_of}
 use Rattle.laws.proofs.Starts.{next-on}
 use Rattle.pairs.specs.Layout.{P, N, graph_of, halts_in}
 use Rattle.pairs.proofs.Ways.{in_length}
-use Rattle.matches.specs.declared.End.TheVariants.{Done, Full, Stuck, OutOfRows}
 use Rattle.matches.specs.declared.Sweep.{Sweep}
-use Rattle.matches.specs.Ends.{answer_of, halted}
 use Rattle.matches.specs.declared.Task.{Task}
 use Rattle.matches.specs.Asked.{Asked, pl, width, search_of, asked_of}
 use Rattle.matches.specs.Found.{swept, swept_at, swept_on, next_at, Quiet, Written, ToldBy, Told, attempt_at, Visited}
@@ -84,7 +82,7 @@ module _ (W : List ℕ) (rows : List ℤ) (task : Task) (num₁ : List ℤ) (lab
 
     over_came : (e : End Match) (notes' : List ℕ) (F' : List Bool) (s' : ℕ) (eF : bits_of notes' (M A) ≡ F') (numbers' : List ℤ) (labs' : List ℕ) (r : Sweep)
         → sw h.fuel (stand_at i.row i.matches i.labels) (as_kept F i.steps) ≡ record { matches = []; end = e; state = as_kept F' s' }
-        → answer_of r.end ≡ end_answer e → r.matches ≡ i.matches → r.labels ≡ i.labels → r.steps ≡ s' → WaitsAt e r → numbers' ≡ numbers → labs' ≡ labs
+        → r.end ≡ end_answer e → r.matches ≡ i.matches → r.labels ≡ i.labels → r.steps ≡ s' → WaitsAt e r → numbers' ≡ numbers → labs' ≡ labs
         → Came A num₁ lab₁ goal notes' numbers' labs' r
     over_came e notes' F' s' eF numbers' labs' r d ee em el es ew en eb =
         rw (ends e F' s' d) (record {
@@ -111,7 +109,7 @@ module _ (W : List ℕ) (rows : List ℤ) (task : Task) (num₁ : List ℤ) (lab
         over_came R.done notes F i.steps refl numbers labs i (off ge ∙ ap (λ (b : Bool). record { matches = []; end = R.no_start b i.row; state = as_kept F i.steps }) em) h.going refl refl refl
         (λ j p (d : R.done ≡ R.unfinished out_of_rows j p). let z : ◌≡◌ {A = ℕ} 0 1 = cc in absurd (omega arith)) refl refl
 
-    pub so_waits : A.n ≤ i.row → A.more ≡ true → (r : Sweep) → r ≡ record { end = OutOfRows; row = i.row; matches = i.matches; labels = i.labels; steps = i.steps; opened = 0 }
+    pub so_waits : A.n ≤ i.row → A.more ≡ true → (r : Sweep) → r ≡ record { end = 23; row = i.row; matches = i.matches; labels = i.labels; steps = i.steps; opened = 0 }
         → Came A num₁ lab₁ goal notes numbers labs r
     unfolding end_answer halt_answer
     so_waits ge em r er =
@@ -139,12 +137,12 @@ module _ (W : List ℕ) (rows : List ℤ) (task : Task) (num₁ : List ℤ) (lab
       module _ (notes' trail trail' : List ℕ) (numbers' : List ℤ) (labs' : List ℕ) (r : Sweep) (v : Visited A notes notes' trail trail' numbers numbers' labs labs' i r) where
         -- it goes on, or has come to its goal
         record Goal (q : Sweep) : Type 0 where
-          on : answer_of q.end ≡ 0 → SoFar W rows task num₁ lab₁ goal notes' numbers' labs' q
-          over : (answer_of q.end ≡ 0 → ⊥) → Came A num₁ lab₁ goal notes' numbers' labs' q
+          on : q.end ≡ 0 → SoFar W rows task num₁ lab₁ goal notes' numbers' labs' q
+          over : (q.end ≡ 0 → ⊥) → Came A num₁ lab₁ goal notes' numbers' labs' q
 
         module _ (k : ℕ) (ek : h.fuel ≡ suc k) (F' : List Bool) (s' : ℕ) (eF : bits_of notes' (M A) ≡ F') where
           -- no match
-          quiet_on : att ≡ (miss, as_kept F' s') → Quiet numbers numbers' labs labs' r (swept Done (i.row + 1) i.matches i.labels s') → Goal r
+          quiet_on : att ≡ (miss, as_kept F' s') → Quiet numbers numbers' labs labs' r (swept 0 (i.row + 1) i.matches i.labels s') → Goal r
           quiet_on ea q =
               let e : sw h.fuel (stand_at i.row i.matches i.labels) (as_kept F i.steps) ≡ sw k (stand_at (suc i.row) i.matches i.labels) (as_kept F' s') =
               rest-is k ek ∙ ap (λ (a : Attempted × Kept). on_answer plan (sw k) (stand_at i.row i.matches i.labels) a.0 a.1) ea in
@@ -169,7 +167,7 @@ module _ (W : List ℕ) (rows : List ℤ) (task : Task) (num₁ : List ℤ) (lab
               })
 
           -- nothing is written, and the search is over
-          over_on : (e : End Match) (to : Sweep) → (answer_of to.end ≡ 0 → ⊥) → answer_of to.end ≡ end_answer e → to.matches ≡ i.matches → to.labels ≡ i.labels → to.steps ≡ s' → WaitsAt e to
+          over_on : (e : End Match) (to : Sweep) → (to.end ≡ 0 → ⊥) → to.end ≡ end_answer e → to.matches ≡ i.matches → to.labels ≡ i.labels → to.steps ≡ s' → WaitsAt e to
               → sw h.fuel (stand_at i.row i.matches i.labels) (as_kept F i.steps) ≡ record { matches = []; end = e; state = as_kept F' s' }
               → Quiet numbers numbers' labs labs' r to → Goal r
           over_on e to not-Going ee em el es ew d q =
@@ -182,16 +180,12 @@ module _ (W : List ℕ) (rows : List ℤ) (task : Task) (num₁ : List ℤ) (lab
           halted-on : (w : Halt) (p : List ℕ) → att ≡ (halts w p, as_kept F' s') → Quiet numbers numbers' labs labs' r (swept_at w p i.row i.matches i.labels s') → Goal r
           unfolding end_answer halt_answer
           halted-on w p ea q =
-              over_on (R.unfinished w i.row p) (swept_at w p i.row i.matches i.labels s') (some w) (told w) refl refl refl (waits w)
+              over_on (R.unfinished w i.row p) (swept_at w p i.row i.matches i.labels s') (some w) refl refl refl refl (waits w)
               (rest-is k ek ∙ ap (λ (a : Attempted × Kept). on_answer plan (sw k) (stand_at i.row i.matches i.labels) a.0 a.1) ea) q
             where
-              some : (w : Halt) → answer_of (halted w) ≡ 0 → ⊥
+              some : (w : Halt) → halt_answer w ≡ 0 → ⊥
               some out_of_steps e = let z : ◌≡◌ {A = ℕ} 16 0 = e in omega arith
               some out_of_rows e = let z : ◌≡◌ {A = ℕ} 23 0 = e in omega arith
-
-              told : (w : Halt) → answer_of (halted w) ≡ halt_answer w
-              told out_of_steps = refl
-              told out_of_rows = refl
 
               waits : (w : Halt) → WaitsAt (R.unfinished w i.row p) (swept_at w p i.row i.matches i.labels s')
               waits out_of_steps j u d = let z : ◌≡◌ {A = ℕ} 0 1 = cc in absurd (omega arith)
@@ -216,11 +210,11 @@ module _ (W : List ℕ) (rows : List ℤ) (task : Task) (num₁ : List ℤ) (lab
             no_wait e o f j u d = absurd (f j u d)
 
             -- a match that does not fit
-            full-on : fit i.matches i.labels (labels (pl A) p) ≡ false → Quiet numbers numbers' labs labs' r (swept Full A.n i.matches i.labels s') → Goal r
+            full-on : fit i.matches i.labels (labels (pl A) p) ≡ false → Quiet numbers numbers' labs labs' r (swept 13 A.n i.matches i.labels s') → Goal r
             unfolding end_answer
             full-on eb q =
-                over_on (R.full t) (swept Full A.n i.matches i.labels s') (λ (e : ◌≡◌ {A = ℕ} 13 0). omega arith) refl refl refl refl
-                (no_wait (R.full t) (swept Full A.n i.matches i.labels s') (λ j u (d : R.full t ≡ R.unfinished out_of_rows j u). let z : ◌≡◌ {A = ℕ} 0 1 = cc in omega arith)) (rest-fit false eb) q
+                over_on (R.full t) (swept 13 A.n i.matches i.labels s') (λ (e : ◌≡◌ {A = ℕ} 13 0). omega arith) refl refl refl refl
+                (no_wait (R.full t) (swept 13 A.n i.matches i.labels s') (λ j u (d : R.full t ≡ R.unfinished out_of_rows j u). let z : ◌≡◌ {A = ℕ} 0 1 = cc in omega arith)) (rest-fit false eb) q
 
             -- a match that fits is written
             module _ (eb : fit i.matches i.labels (labels (pl A) p) ≡ true) (to : Sweep) (q : Written A p i numbers numbers' labs labs' r to) where
@@ -293,7 +287,7 @@ module _ (W : List ℕ) (rows : List ℤ) (task : Task) (num₁ : List ℤ) (lab
                       matches = m-on eb _ q;
                       labels = l_on eb _ q;
                       steps = refl;
-                      waits = no_wait R.stuck (swept Stuck A.n (i.matches + 1) (i.labels + length (labels (pl A) p)) s') (λ j u (d : R.stuck ≡ R.unfinished out_of_rows j u). let z : ◌≡◌ {A = ℕ} 0 1 = cc in omega arith);
+                      waits = no_wait R.stuck (swept 15 A.n (i.matches + 1) (i.labels + length (labels (pl A) p)) s') (λ j u (d : R.stuck ≡ R.unfinished out_of_rows j u). let z : ◌≡◌ {A = ℕ} 0 1 = cc in omega arith);
                       numbers_is = numbers-at eb _ q;
                       labels_is = labels_at eb _ q;
                     };
@@ -314,17 +308,17 @@ module _ (W : List ℕ) (rows : List ℤ) (task : Task) (num₁ : List ℤ) (lab
         by-fuel zero e = absurd (let en = h.enough in omega arith)
         by-fuel (suc k) e = by-att k e att.1.failed att.1.steps v.kept att.0 refl v.told
 
-        pub so_more : answer_of r.end ≡ 0 → SoFar W rows task num₁ lab₁ goal notes' numbers' labs' r
+        pub so_more : r.end ≡ 0 → SoFar W rows task num₁ lab₁ goal notes' numbers' labs' r
         so_more e = (by-fuel h.fuel refl).on e
 
-        pub so_over : (answer_of r.end ≡ 0 → ⊥) → Came A num₁ lab₁ goal notes' numbers' labs' r
+        pub so_over : (r.end ≡ 0 → ⊥) → Came A num₁ lab₁ goal notes' numbers' labs' r
         so_over e = (by-fuel h.fuel refl).over e
 
 -- ---- the search from its beginning
 
 pub so_first : (W : List ℕ) (rows : List ℤ) (task : Task) (notes : List ℕ) (numbers : List ℤ) (labs : List ℕ)
     → bits_of notes (M (asked_of W rows task)) ≡ replicate (M (asked_of W rows task)) false
-    → SoFar W rows task numbers labs (search_of (asked_of W rows task) (length numbers) (length labs)) notes numbers labs (record { end = Done; row = 0; matches = 0; labels = 0; steps = 0; opened = 0 })
+    → SoFar W rows task numbers labs (search_of (asked_of W rows task) (length numbers) (length labs)) notes numbers labs (record { end = 0; row = 0; matches = 0; labels = 0; steps = 0; opened = 0 })
 unfolding search_of walk_search halting_of halts_in numbers_of labels_of
 so_first W rows task notes numbers labs none-failed =
     record {

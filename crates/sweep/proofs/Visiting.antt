@@ -25,7 +25,6 @@ use Rattle.pairs.specs.State.{Good, Stands, Ready, Done, Quiet}
 use Rattle.pairs.proofs.Trails.{stack-length}
 use Rattle.pairs.proofs.Trying.{pair-in, before-other, fair_quiet, halts-fair}
 use Rattle.pairs.proofs.Going.{roomy_top, good_room, top_row}
-use Rattle.matches.specs.declared.End.TheVariants as end
 use Rattle.matches.specs.declared.Sweep.{Sweep}
 use Rattle.matches.specs.declared.Task.{Task}
 use Rattle.matches.specs.Asked.{Asked, path_on, asked_of}
@@ -109,17 +108,17 @@ module _ (W : List ℕ) (rows : List ℤ) (task : Task) (trail labs : List ℕ) 
   tell_reports h e c t = h.reports e c t
 
   pub tell_halted : (numbers : List ℤ) → w.status ≡ 1
-      → Told (asked_of W rows task) (came_to task.size.places trail w) i w.steps numbers numbers labs labs (record { end = end.OutOfSteps; row = i.row; matches = i.matches; labels = i.labels; steps = w.steps; opened = 0 })
-  unfolding came_to
+      → Told (asked_of W rows task) (came_to task.size.places trail w) i w.steps numbers numbers labs labs (record { end = 16; row = i.row; matches = i.matches; labels = i.labels; steps = w.steps; opened = 0 })
+  unfolding came_to halt_answer
   tell_halted numbers e = rw (eq-eqb w.status 1 e) (record { numbers_is = refl; labels_is = refl; sweep_is = refl })
 
   pub tell_waits : (numbers : List ℤ) → (w.status ≡ 1 → ⊥) → w.status ≡ 3
-      → Told (asked_of W rows task) (came_to task.size.places trail w) i w.steps numbers numbers labs labs (record { end = end.OutOfRows; row = i.row; matches = i.matches; labels = i.labels; steps = w.steps; opened = w.top + 1 })
-  unfolding came_to
+      → Told (asked_of W rows task) (came_to task.size.places trail w) i w.steps numbers numbers labs labs (record { end = 23; row = i.row; matches = i.matches; labels = i.labels; steps = w.steps; opened = w.top + 1 })
+  unfolding came_to halt_answer
   tell_waits numbers e c = rw (ne_eqb w.status 1 e, eq-eqb w.status 3 c) (record { numbers_is = refl; labels_is = refl; sweep_is = rw (waits-long task.size.places trail w) refl })
 
   pub tell_none : (numbers : List ℤ) → (w.status ≡ 1 → ⊥) → (w.status ≡ 3 → ⊥) → w.top ≡ 0
-      → Told (asked_of W rows task) (came_to task.size.places trail w) i w.steps numbers numbers labs labs (record { end = end.Done; row = i.row + 1; matches = i.matches; labels = i.labels; steps = w.steps; opened = 0 })
+      → Told (asked_of W rows task) (came_to task.size.places trail w) i w.steps numbers numbers labs labs (record { end = 0; row = i.row + 1; matches = i.matches; labels = i.labels; steps = w.steps; opened = 0 })
   unfolding came_to
   tell_none numbers e c t = rw (ne_eqb w.status 1 e, ne_eqb w.status 3 c, t) (record { numbers_is = refl; labels_is = refl; sweep_is = refl })
 

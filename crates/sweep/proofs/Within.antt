@@ -9,6 +9,7 @@ use native.Mathlib.Nat.{suc-mul, mul-le-mul, mul-le-mul_right}
 use native.Mathlib.Omega.{arith}
 use lib.IntN.{ℤ}
 use lib.ListN.{length}
+use Rattle.rules.specs.Answers.{halt_answer}
 use Rattle.rules.specs.Report.{lent_room, fits}
 use Rattle.rules.specs.Search.{Attempted, hit, miss, halts, labels, end_of}
 use Rattle.rules.specs.Walk.{Halt, out_of_steps, out_of_rows, Kept}
@@ -17,10 +18,7 @@ use Rattle.laws.proofs.Limits.{match-long}
 use Rattle.rules.specs.Working.{bits_of}
 use Rattle.laws.proofs.Starts.{next-on}
 use Rattle.pairs.specs.Layout.{N, most_pairs}
-use Rattle.matches.specs.declared.End.{End}
-use Rattle.matches.specs.declared.End.TheVariants.{Done, Full}
 use Rattle.matches.specs.declared.Sweep.{Sweep}
-use Rattle.matches.specs.Ends.{answer_of, halted}
 use Rattle.matches.specs.declared.Task.{Task}
 use Rattle.matches.specs.Asked.{Asked, pl, width, asked_of}
 use Rattle.matches.specs.Found.{swept, swept_at, swept_on, next_at, Quiet, Written, ToldBy, Told, Visits, attempt_at, Visited, Searches}
@@ -71,22 +69,22 @@ module _ (W : List ℕ) (rows : List ℤ) (task : Task) (notes trail : List ℕ)
 
     -- what holds of it where it goes on, and of the lengths in any case
     record Keeps (q : Sweep) : Type 0 where
-      sound : answer_of q.end ≡ 0 → Sound W rows task notes' trail' labs' q
-      rises : answer_of q.end ≡ 0 → i.row < q.row
+      sound : q.end ≡ 0 → Sound W rows task notes' trail' labs' q
+      rises : q.end ≡ 0 → i.row < q.row
       numbers_long : length numbers' ≡ length numbers
       labels_long : length labs' ≡ length labs
 
     abbrev On : ℕ → ℕ → ℕ → ℕ → Type 0
     On row m l s = (m ≤ row) × (l ≤ length labs') × (s ≤ i.steps + M A) × (suc i.row ≤ row)
 
-    on-sound : (end : End) (row m l s o : ℕ) → On row m l s → Sound W rows task notes' trail' labs' (record { end = end; row = row; matches = m; labels = l; steps = s; opened = o })
+    on-sound : (end row m l s o : ℕ) → On row m l s → Sound W rows task notes' trail' labs' (record { end = end; row = row; matches = m; labels = l; steps = s; opened = o })
     on-sound end row m l s o a = record { searches = searches_on; few = a.0; labels = a.1; steps = by_row s row a.2 a.3 }
 
-    quiet_keeps : (to : Sweep) → Quiet numbers numbers' labs labs' r to → ((answer_of to.end ≡ 0 → ⊥) ⊎ On to.row to.matches to.labels to.steps) → Keeps r
+    quiet_keeps : (to : Sweep) → Quiet numbers numbers' labs labs' r to → ((to.end ≡ 0 → ⊥) ⊎ On to.row to.matches to.labels to.steps) → Keeps r
     quiet_keeps to q o =
         subst Keeps (sym q.sweep_is) (record {
-          sound = λ e. ⊎_elim (λ (f : answer_of to.end ≡ 0 → ⊥). absurd (f e)) (λ (a : On to.row to.matches to.labels to.steps). on-sound to.end to.row to.matches to.labels to.steps to.opened a) o;
-          rises = λ e. ⊎_elim (λ (f : answer_of to.end ≡ 0 → ⊥). absurd (f e)) (λ (a : On to.row to.matches to.labels to.steps). a.3) o;
+          sound = λ e. ⊎_elim (λ (f : to.end ≡ 0 → ⊥). absurd (f e)) (λ (a : On to.row to.matches to.labels to.steps). on-sound to.end to.row to.matches to.labels to.steps to.opened a) o;
+          rises = λ e. ⊎_elim (λ (f : to.end ≡ 0 → ⊥). absurd (f e)) (λ (a : On to.row to.matches to.labels to.steps). a.3) o;
           numbers_long = ap length q.numbers_is;
           labels_long = ap length q.labels_is;
         })
@@ -115,7 +113,7 @@ module _ (W : List ℕ) (rows : List ℤ) (task : Task) (notes trail : List ℕ)
               let b = fr.1 in
               let c = labs-long in
               record {
-                sound = λ _. on-sound Done nx (i.matches + 1) (i.labels + length (labels (pl A) p)) s 0 (omega arith, omega arith, ls, u);
+                sound = λ _. on-sound 0 nx (i.matches + 1) (i.labels + length (labels (pl A) p)) s 0 (omega arith, omega arith, ls, u);
                 rises = λ _. u;
                 numbers_long = nums;
                 labels_long = labs-long;
@@ -124,9 +122,10 @@ module _ (W : List ℕ) (rows : List ℤ) (task : Task) (notes trail : List ℕ)
     by-fit : (p : List ℕ) (s : ℕ) → s ≤ i.steps + M A → (b : Bool) → fits (lent_room (length numbers) (length labs) A.measures) i.matches i.labels (labels (pl A) p) ≡ b
         → ToldBy b A p i s numbers numbers' labs labs' r → Keeps r
     by-fit p s ls true eb q = written_keeps p s ls eb (next_at A i.row p) refl q
-    by-fit p s ls false eb q = quiet_keeps (swept Full A.n i.matches i.labels s) q (inl (λ (e : ◌≡◌ {A = ℕ} 13 0). omega arith))
+    by-fit p s ls false eb q = quiet_keeps (swept 13 A.n i.matches i.labels s) q (inl (λ (e : ◌≡◌ {A = ℕ} 13 0). omega arith))
 
-    halt_some : (w : Halt) → answer_of (halted w) ≡ 0 → ⊥
+    halt_some : (w : Halt) → halt_answer w ≡ 0 → ⊥
+    unfolding halt_answer
     halt_some out_of_steps e = let z : ◌≡◌ {A = ℕ} 16 0 = e in omega arith
     halt_some out_of_rows e = let z : ◌≡◌ {A = ℕ} 23 0 = e in omega arith
 
@@ -135,17 +134,17 @@ module _ (W : List ℕ) (rows : List ℤ) (task : Task) (notes trail : List ℕ)
         let f = h.few in
         let l = h.labels in
         let k = ap length q.labels_is in
-        quiet_keeps (swept Done (i.row + 1) i.matches i.labels s) q (inr (omega arith, omega arith, ls, omega arith))
+        quiet_keeps (swept 0 (i.row + 1) i.matches i.labels s) q (inr (omega arith, omega arith, ls, omega arith))
     by-att (halts w p) s ls q = quiet_keeps (swept_at w p i.row i.matches i.labels s) q (inl (halt_some w))
     by-att (hit p) s ls q = by-fit p s ls (fits (lent_room (length numbers) (length labs) A.measures) i.matches i.labels (labels (pl A) p)) refl q
 
     keeps : Keeps r
     keeps = by-att att.0 att.1.steps v.more v.told
 
-    pub sound_more : answer_of r.end ≡ 0 → Sound W rows task notes' trail' labs' r
+    pub sound_more : r.end ≡ 0 → Sound W rows task notes' trail' labs' r
     sound_more e = keeps.sound e
 
-    pub sound_less : answer_of r.end ≡ 0 → A.n - r.row < A.n - i.row
+    pub sound_less : r.end ≡ 0 → A.n - r.row < A.n - i.row
     sound_less e = let u = keeps.rises e in omega arith
 
     pub sound_numbers : length numbers' ≡ length numbers

@@ -11,7 +11,6 @@ use Rattle.pairs.specs.declared.Walk.{Walk}
 use Rattle.pairs.specs.Layout.{N, layout_of, halts_in, most_pairs}
 use Rattle.pairs.specs.Step.{stack, pair_of}
 use Rattle.matches.specs.declared.Sweep.{Sweep}
-use Rattle.matches.specs.Ends.{answer_of}
 use Rattle.matches.specs.declared.Task.{Task}
 use Rattle.matches.specs.Asked.{Asked, pl, width, asked_of, search_of, path_on}
 use Rattle.matches.specs.Found.{Searches, Reports}
@@ -73,7 +72,7 @@ pub record SoFar (T : List ℕ) (rows : List ℤ) (task : Task) (num₁ : List �
   pub done : List Match
   pub enough : task.size.rows ≤ i.row + fuel
   pub total : pre done (swp (asked_of T rows task) (length num₁) (length lab₁) fuel (stand_at i.row i.matches i.labels) (as_kept (bits_of notes (N (layout_of T task.size) task.size.rows)) i.steps)) ≡ goal
-  pub going : answer_of i.end ≡ 0
+  pub going : i.end ≡ 0
   pub none_open : i.opened ≡ 0
   pub m_is : i.matches ≡ length done
   pub l_is : i.labels ≡ length (labels_of (pl (asked_of T rows task)) done)
@@ -88,7 +87,7 @@ WaitsAt e r = (i : ℕ) (p : List ℕ) → e ≡ unfinished out_of_rows i p → 
 
 -- the counts and the report of the definition's search W
 pub record Reported (A : Asked) (W : Swept Kept) (num₁ : List ℤ) (lab₁ : List ℕ) (numbers : List ℤ) (labs : List ℕ) (r : Sweep) : Type 0 where
-  pub end : answer_of r.end ≡ end_answer W.end
+  pub end : r.end ≡ end_answer W.end
   pub matches : r.matches ≡ length W.matches
   pub labels : r.labels ≡ length (labels_of (pl A) W.matches)
   pub steps : r.steps ≡ W.state.steps
@@ -120,7 +119,7 @@ pub record Measures (T : List ℕ) (task : Task) (notes trail : List ℕ) : Type
 -- The trail is left free where the search waits, but for what lies beyond the pairs; else it is
 -- zeros.
 pub record Trailed (pairs : ℕ) (t₀ trail : List ℕ) (r : Sweep) : Type 0 where
-  pub zeroed : (answer_of r.end ≡ 23 → ⊥) → trail ≡ wrote t₀ 0 (zeros pairs)
+  pub zeroed : (r.end ≡ 23 → ⊥) → trail ≡ wrote t₀ 0 (zeros pairs)
   pub trail_long : length trail ≡ length t₀
   pub trail_beyond : drop pairs trail ≡ drop pairs t₀
 

@@ -9,12 +9,11 @@
 ghost use Rattle.std.specs.Prelude.{◌≡◌, ◌≤◌, length};
 ghost use Rattle.rules.specs.Basics.{wrote};
 ghost use Rattle.rules.specs.Report.{zeros};
-ghost use Rattle.matches.specs.declared.End.TheVariants.{OutOfRows};
 ghost use Rattle.matches.specs.Asked.{asked_of};
 ghost use Rattle.matches.specs.Found.{Told, Visits, Visited, Searches};
 ghost use Rattle.sweep.specs.Searched.{came_to, Tells, Sound, Searched, Measures, WentOn, Answered};
 
-use matches::{End, Sweep, Task, write_match};
+use matches::{DONE, OUT_OF_ROWS, OUT_OF_STEPS, Sweep, Task, write_match};
 use pairs::{ENTER, WAITS, Walk};
 use walk::attempt;
 
@@ -36,7 +35,7 @@ fn tell(
 {
     if w.status == ENTER {
         return Sweep {
-            end: End::OutOfSteps,
+            end: OUT_OF_STEPS,
             steps: w.steps,
             opened: 0,
             ..i
@@ -44,7 +43,7 @@ fn tell(
     }
     if w.status == WAITS {
         return Sweep {
-            end: End::OutOfRows,
+            end: OUT_OF_ROWS,
             steps: w.steps,
             opened: w.top + 1,
             ..i
@@ -52,7 +51,7 @@ fn tell(
     }
     if w.top == 0 {
         return Sweep {
-            end: End::Done,
+            end: DONE,
             row: i.row + 1,
             steps: w.steps,
             opened: 0,
@@ -82,10 +81,10 @@ fn visit(
 
 // The search waits for a row to start at.
 fn waiting(i: Sweep) -> Sweep
-    ensures { result ≡ record { end = OutOfRows; row = i.row; matches = i.matches; labels = i.labels; steps = i.steps; opened = 0 } }
+    ensures { result ≡ record { end = 23; row = i.row; matches = i.matches; labels = i.labels; steps = i.steps; opened = 0 } }
 {
     Sweep {
-        end: End::OutOfRows,
+        end: OUT_OF_ROWS,
         opened: 0,
         ..i
     }
@@ -110,7 +109,7 @@ fn starts(
     let mut i = from;
     while i.row < n {
         i = visit(table, rows, notes, trail, numbers, labels, task, i);
-        if i.end != End::Done {
+        if i.end != DONE {
             return i;
         }
     }
@@ -135,7 +134,7 @@ pub fn go_on(
     ensures { WentOn table.now rows.now task notes.old trail.old numbers.old labels.old from notes.new trail.new numbers.new labels.new result }
 {
     let r = starts(table, rows, notes, trail, numbers, labels, task, from);
-    if r.end == End::OutOfRows {
+    if r.end == OUT_OF_ROWS {
         return r;
     }
     trail[..task.pairs].fill(0);
@@ -157,7 +156,7 @@ pub fn search(
 {
     notes[..task.pairs.div_ceil(8)].fill(0);
     let first = Sweep {
-        end: End::Done,
+        end: DONE,
         row: 0,
         matches: 0,
         labels: 0,

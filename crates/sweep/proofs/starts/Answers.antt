@@ -2,7 +2,6 @@
 -- come first.
 use Rattle.sweep.proofs.Going.{going_none, going_visits, going_numbers, going_labels, going_over, going_less, going_more, going_all, going_waits}
 use borrow.Author.Rules.{rules}
-use Rattle.sweep.proofs.Ends.{was_done, not_done}
 use Rattle.sweep.proofs.starts.Goals as goal
 
 pub loop-i-init : goal.loop-i-init
@@ -11,20 +10,20 @@ loop-i-init c = search (rules, going_none)
 pub visit-i-requires : goal.visit-i-requires
 visit-i-requires c = search (rules, going_visits)
 
-pub shape_of-numbers-then-ne : goal.shape_of-numbers-then-ne
-shape_of-numbers-then-ne c = search (rules, going_numbers)
+pub shape_of-numbers-then-i-ne-DONE : goal.shape_of-numbers-then-i-ne-DONE
+shape_of-numbers-then-i-ne-DONE c = search (rules, going_numbers)
 
-pub shape_of-labels-then-ne : goal.shape_of-labels-then-ne
-shape_of-labels-then-ne c = search (rules, going_labels)
+pub shape_of-labels-then-i-ne-DONE : goal.shape_of-labels-then-i-ne-DONE
+shape_of-labels-then-i-ne-DONE c = search (rules, going_labels)
 
-pub returns-then-ne : goal.returns-then-ne
-returns-then-ne c = search (rules, going_over, not_done)
+pub returns-then-i-ne-DONE : goal.returns-then-i-ne-DONE
+returns-then-i-ne-DONE c = search (rules, going_over)
 
 pub loop-i-smaller : goal.loop-i-smaller
-loop-i-smaller c = search (rules, going_less, was_done)
+loop-i-smaller c = search (rules, going_less)
 
 pub loop-i-preserved : goal.loop-i-preserved
-loop-i-preserved c = search (rules, going_more, was_done)
+loop-i-preserved c = search (rules, going_more)
 
 pub returns-then-size : goal.returns-then-size
 returns-then-size c = search (rules, going_waits)
