@@ -37,12 +37,25 @@ pub struct Fed {
     pub outcome: Outcome,
 }
 
+// The call gets an answer and an offset, and zeros: what is kept stays as it is.
+pub fn refuse(feed: Feed, answer: usize, offset: usize) -> Fed
+    ensures { result ≡ refusing feed answer offset }
+{
+    let outcome = Outcome {
+        answer,
+        matches: 0,
+        labels: 0,
+        steps: 0,
+        offset,
+    };
+    Fed { feed, outcome }
+}
+
 // The call is refused: what is kept stays as it is.
-pub fn refuse(feed: Feed, refusal: Refusal) -> Fed
+pub fn refuse_by(feed: Feed, refusal: Refusal) -> Fed
     ensures { result ≡ refusing feed (answer_of refusal) (offset_of refusal) }
 {
-    let outcome = Outcome::from(refusal);
-    Fed { feed, outcome }
+    refuse(feed, refusal.answer(), refusal.offset())
 }
 
 // What is kept behind a search.
@@ -55,7 +68,7 @@ fn kept(call: Call, s: Sweep) -> Feed
         allowance: feed.allowance,
         present: call.present,
         begun: 1,
-        answer: s.end.answer(),
+        answer: s.end,
         row: s.row,
         matches: s.matches,
         labels: s.labels,
@@ -145,7 +158,7 @@ pub fn call_prepared(
 {
     let p = match prepared {
         Ok(p) => p,
-        Err(refusal) => return refuse(call.feed, refusal),
+        Err(refusal) => return refuse_by(call.feed, refusal),
     };
     match admit(
         table,
@@ -160,6 +173,6 @@ pub fn call_prepared(
             let part = &rows[..call.present * p.columns];
             go(table, p, call, part, notes, trail, numbers, labels)
         }
-        Err(refusal) => refuse(call.feed, refusal),
+        Err(refusal) => refuse_by(call.feed, refusal),
     }
 }

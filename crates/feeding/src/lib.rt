@@ -10,7 +10,7 @@ ghost use Rattle.std.specs.Prelude.{◌≡◌};
 ghost use Rattle.calls.specs.Steps.{before as asked, after as left, as_before};
 ghost use Rattle.feeding.specs.Calls.{Calls};
 
-use calls::{Call, Fed, refuse};
+use calls::{Call, Fed, refuse_by};
 use lots::{DONE, Feed, WAITING};
 use outcome::Outcome;
 use query_calls::call_waiting;
@@ -46,7 +46,7 @@ pub fn feed(
 {
     match call.feed.answer {
         WAITING => call_waiting(query, rows, notes, trail, numbers, labels, call),
-        DONE => refuse(call.feed, Refusal::OutOfOrder),
+        DONE => refuse_by(call.feed, Refusal::OutOfOrder),
         _ => as_before(call.feed),
     }
 }

@@ -4,7 +4,7 @@ use Rattle.calls.proofs.Refusing.{own_refuses, may_look, entries_fit, part_long,
 use Rattle.calls.proofs.call_prepared.Goals as goal
 
 pub returns-in-Err : goal.returns-in-Err
-returns-in-Err c = rw c.in-Err.is (own_refuses _ _ c.requires.1 _ _ _ _ _ _ _ c.refuse.ensures)
+returns-in-Err c = rw c.in-Err.is (own_refuses _ _ c.requires.1 _ _ _ _ _ _ _ c.refuse_by.ensures)
 
 pub admit-requires : goal.admit-requires
 admit-requires c = may_look _ _ (rw c.in-Ok.is at c.requires.0)
@@ -22,4 +22,4 @@ pub returns-in-Ok-admit : goal.returns-in-Ok-admit
 returns-in-Ok-admit c = rw c.in-Ok.is (call_taken _ _ c.requires.1 _ _ _ _ _ _ _ c.in-Ok-admit.ensures _ refl _ _ _ _ _ c.go.ensures)
 
 pub returns-in-Err-admit : goal.returns-in-Err-admit
-returns-in-Err-admit c = rw c.in-Ok.is (call_refuses _ _ c.requires.1 _ _ _ _ _ _ _ c.in-Err-admit.ensures _ c.refuse-in-Err-admit.ensures)
+returns-in-Err-admit c = rw c.in-Ok.is (call_refuses _ _ c.requires.1 _ _ _ _ _ _ _ c.in-Err-admit.ensures _ c.refuse_by-in-Err-admit.ensures)
