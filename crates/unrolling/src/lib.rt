@@ -147,8 +147,10 @@ fn rounds(room: &[u16], f: Factor, table: &mut [u16], o: Plane, b: usize, w: usi
     way
 }
 
-// The body of the factor at i, once. A letter that passes sets all flags that its place has.
+// The body of the factor at i, once. A letter that passes sets all flags that its place has. Inlined
+// always: as a call for each copy it takes half of the time of `A{99} B{99}` (docs/PERFORMANCE.md).
 #[cycle(body_branches_emit_rounds)]
+#[inline(always)]
 fn body(room: &[u16], i: usize, table: &mut [u16], o: Plane, b: usize, w: usize, k: Behind) -> usize
     requires { Bodying o room.now i table.old b w k }
     ensures { (h : Bodying o room.now i table.old b w k) → Emitted o table.old table.new b w result (body_places o h.of b k) }
