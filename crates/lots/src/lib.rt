@@ -11,7 +11,7 @@
 ghost use Rattle.std.specs.Prelude.{◌≡◌, ◌&&◌, ◌≤◌, leb};
 ghost use Rattle.lots.specs.Feeds.{new_feed, kept_in, Advances, Advanced};
 
-use matches::{DONE, Sweep, Task};
+use matches::{Sweep, Task};
 use sweep::{go_on, search};
 
 // What is kept between calls: the largest number of rows and the steps allowed, as they were named;
@@ -82,7 +82,7 @@ fn taken_up(feed: Feed) -> Sweep
     ensures { result ≡ kept_in feed }
 {
     Sweep {
-        end: DONE,
+        end: matches::DONE,
         row: feed.row,
         matches: feed.matches,
         labels: feed.labels,
