@@ -35,7 +35,7 @@ struct Prepared {
     numbers: Numbers,
 }
 
-/// The numbers beside the table, as crates/prepared has them.
+/// The numbers beside the table, as crates/bench_c has them.
 #[repr(C)]
 #[derive(Clone, Copy)]
 struct Numbers {
