@@ -95,6 +95,12 @@ places-length o T q w (p ∷ ps) = places-length o (put_place T (slot o q) w p) 
 
 -- ---- one after another
 
+pub ways-append : (T : List ℕ) (w : ℕ) (xs ys : List ℕ) → put_ways T w (xs ++ ys) ≡ put_ways (put_ways T w xs) (w + length xs) ys
+unfolding put_ways
+ways-append T w [] ys = ap (λ (v : ℕ). put_ways T v ys) (let e : w ≡ w + 0 = omega arith in e)
+ways-append T w (x ∷ xs) ys = ways-append (set T w x) (suc w) xs ys ∙ ap (λ (v : ℕ). put_ways (put_ways (set T w x) (suc w) xs) v ys)
+    (let e : suc w + length xs ≡ w + suc (length xs) = omega arith in e)
+
 pub ways_in-append : (ps rs : List Place) → ways_in (ps ++ rs) ≡ ways_in ps + ways_in rs
 unfolding ways_in
 ways_in-append [] rs = omega arith
@@ -147,6 +153,9 @@ emitted_two o T T1 T2 b w v r q xs ys ev x y =
 pub emitted_none : (o : Plane) (T : List ℕ) (b w : ℕ) → Emitted o T T b w w []
 unfolding put_places ways_in
 emitted_none o T b w = record { is = refl; way = omega arith }
+
+pub emitted_length : (o : Plane) (T exit : List ℕ) (b w r : ℕ) (pl : List Place) → Emitted o T exit b w r pl → length exit ≡ length T
+emitted_length o T exit b w r pl d = ap length d.is ∙ places-length o T b w pl
 
 -- one place of a plane
 module _ (o : Plane) (T : List ℕ) (b w : ℕ) (p : Place) where

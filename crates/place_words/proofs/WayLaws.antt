@@ -1,12 +1,13 @@
 -- A fork's ways in a table: those that do not yet stand there are put, each once.
-use mathlib.Core.Path.{◌≡◌, refl, ap, ◌∙◌}
-use mathlib.Core.Bool.{Bool, true, false, ◌||◌, or_comm}
+use mathlib.Core.Path.{◌≡◌, refl, sym, ap, ◌∙◌}
+use mathlib.Core.Bool.{Bool, true, false, ◌||◌, or_comm, true≢false}
 use mathlib.Core.List.{List, [], ◌∷◌, ◌++◌}
 use Prim.Native.Nat.{ℕ, zero, suc, ◌+◌, ◌-◌, ◌≤◌, ◌<◌}
 use native.Mathlib.Omega.{arith}
 use lib.Dec.{eqb}
 use lib.ListN.{length, get_or, set, length-set, take, drop}
 use lib.Seq.{get_or-set_same, get_or-set_other, drop-cons}
+use borrow.Author.Tests.{eq-eqb, ne_eqb}
 use Rattle.std.specs.List.{list_any}
 use Rattle.rules.specs.Basics.{has}
 use Rattle.laws.proofs.Bounds.{has-append}
@@ -15,6 +16,38 @@ use Rattle.table.specs.Table.{span}
 use Rattle.place_words.specs.Words.{put_ways, WayPut, WayNeeds}
 
 -- ---- a way among words
+
+-- it stands among the words from `from` on exactly if it stands among those from j on
+pub record Looked (T : List ℕ) (from to y j : ℕ) : Type 0 where
+  pub same : has y (span T from (to - from)) ≡ has y (span T j (to - j))
+  pub order : j ≤ to
+  pub inside : to ≤ length T
+
+pub looked_none : (T : List ℕ) (from to y : ℕ) → (from ≤ to) × (to ≤ length T) → Looked T from to y from
+looked_none T from to y h = record { same = refl; order = h.0; inside = h.1 }
+
+module _ (T : List ℕ) (from to y j : ℕ) (h : Looked T from to y j) where
+  pub looked_end : to ≤ j → false ≡ has y (span T from (to - from))
+  unfolding has span
+  looked_end l = sym (h.same ∙ ap (λ (m : ℕ). has y (span T j m)) (let e : to - j ≡ 0 = omega arith in e))
+
+  module _ (v : ℕ) (l : j < to) (ev : (v ≡ get_or T j 0) × (v < 65536)) where
+    looked_step : has y (span T j (to - j)) ≡ (eqb v y || has y (span T (j + 1) (to - (j + 1))))
+    unfolding has span
+    looked_step =
+        ap (λ (m : ℕ). has y (span T j m)) (let e : to - j ≡ suc (to - suc j) = omega arith in e)
+        ∙ ap (λ (x : ℕ). eqb x y || has y (span T (suc j) (to - suc j))) (sym ev.0)
+        ∙ ap (λ (i : ℕ). eqb v y || has y (span T i (to - i))) (let e : suc j ≡ j + 1 = omega arith in e)
+
+    pub looked_found : v ≡ y → true ≡ has y (span T from (to - from))
+    looked_found e = sym (h.same ∙ looked_step ∙ ap (λ (t : Bool). t || has y (span T (j + 1) (to - (j + 1)))) (eq-eqb v y e))
+
+    pub looked_more : (v ≡ y → ⊥) → Looked T from to y (j + 1)
+    looked_more n = record {
+      same = h.same ∙ looked_step ∙ ap (λ (t : Bool). t || has y (span T (j + 1) (to - (j + 1)))) (ne_eqb v y n);
+      order = omega arith;
+      inside = h.inside;
+    }
 
 -- the words from a word on are the end of the table that begins there
 pub span_taken : (T : List ℕ) (j m : ℕ) → j + m ≤ length T → span T j m ≡ take m (drop j T)
@@ -32,6 +65,16 @@ has_any y [] = refl
 has_any y (k ∷ ks) = ap (λ (b : Bool). eqb k y || b) (has_any y ks)
 
 -- ---- a way that is put
+
+module _ (T : List ℕ) (from to y : ℕ) (d : Bool) (ed : d ≡ has y (span T from (to - from))) where
+  pub way_old : d ≡ true → WayPut T T from to y to
+  way_old o = record { old = λ h. (refl, refl); new = λ h. absurd (true≢false (sym o ∙ ed ∙ h)) }
+
+  pub way_new : d ≡ false → WayPut T (set T to y) from to y (to + 1)
+  way_new o = record { old = λ h. absurd (true≢false (sym h ∙ sym ed ∙ o)); new = λ h. (refl, refl) }
+
+  pub way_fits : WayNeeds T from to y → d ≡ false → to < length T
+  way_fits n o = n.fits (sym ed ∙ o)
 
 -- what was seen matters by its members only
 fresh-cong : (s t ys : List ℕ) → ((z : ℕ) → has z s ≡ has z t) → fresh s ys ≡ fresh t ys
