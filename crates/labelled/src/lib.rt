@@ -26,8 +26,9 @@ pub fn last_of(letter: u8, labels: &[u8]) -> Option<usize>
     labels.iter().rposition(|&label| is_of(letter, label))
 }
 
-// How many rows a measure has from index `at` on.
-#[tactic(auto, using(crate::proofs::Seeking::all_counted))]
+// How many rows a measure has from index `at` on. By std's `filter` and `count` a long match takes
+// twice as long (docs/PERFORMANCE.md).
+#[tactic(auto, using(crate::proofs::Seeking::all_counted, crate::proofs::Seeking::next_counted, crate::proofs::Seeking::next_passed, crate::proofs::Seeking::whole_counted))]
 pub fn count_of(letter: u8, labels: &[u8], at: usize) -> usize
     requires { at ≤ length labels.now }
     ensures { (result ≡ count_of letter (drop at labels.now)) × (result ≤ length labels.now) }
@@ -35,8 +36,12 @@ pub fn count_of(letter: u8, labels: &[u8], at: usize) -> usize
     if letter == 0 {
         return labels.len() - at;
     }
-    labels[at..]
-        .iter()
-        .filter(|&&label| is_of(letter, label))
-        .count()
+    let rest = &labels[at..];
+    let mut count = 0;
+    for i in 0..rest.len() {
+        if is_of(letter, rest[i]) {
+            count += 1;
+        }
+    }
+    count
 }
